@@ -1,0 +1,8 @@
+pub mod Byte
+pub mod Decide
+pub mod If
+pub mod Kind
+pub mod Page
+pub mod Range
+pub mod State
+pub mod Table

@@ -1,0 +1,202 @@
+-- The two promises on the steps and the states of every scan, over the definitions that the calls of `scan` cite:
+-- every step is counted, a scan of n bytes makes at most 8(n+1) of them, and every state that a call gives is in range.
+use Prim.Native.Nat.{ℕ, zero, suc, _+_, _-_, _*_, _≤_, _<_}
+use native.Mathlib.Omega.{arith}
+use mathlib.Core.Path.{_≡_, refl, sym, ap, _∙_}
+use mathlib.Core.Bool.{Bool, true, false, _&&_}
+use mathlib.Core.List.{List, [], _∷_}
+use lib.ListN.{length}
+use lib.Dec.{leb, ltb, eqb}
+use borrow.Author.Tests.{leb-true, le-leb, ltb-true, ltb-false, lt-ltb, eqb-true}
+use Rattle.base.specs.If.{if_then_else_, if-is, if-yes, if-no, case, both, and-yes}
+use Rattle.base.specs.Page.{byteAt}
+use Rattle.base.specs.State.{full, asking, rests}
+use Rattle.base.specs.Decide.{retry, countOf}
+use Rattle.base.specs.declared.Marks.the-variants.{Nothing}
+use Rattle.base.specs.declared.Move.{Move}
+use Rattle.base.specs.declared.Verdict.{Verdict}
+use Rattle.words.specs.Words.{roomIn}
+use Rattle.machine.specs.declared.Job.{Job}
+use Rattle.machine.specs.declared.Tokenizer.{Tokenizer}
+use Rattle.machine.specs.Machine.{decision}
+use Rattle.machine.specs.Moved.{oneMore, moved}
+use Rattle.machine.specs.Ranges.{jobInRange, verdictInRange, inRange}
+use Rattle.scan.specs.declared.Scan.{Scan}
+use Rattle.scan.specs.Scan.{stepBound, counted, choice, lacks, done, movedScan, stepScan, runScan}
+use Rattle.scan.specs.Call.{scanInRange, givenScan, freshScan}
+use Rattle.scan.specs.Alone.{toldScan, runAlone}
+use Rattle.bound.specs.Left.{left, left-ended}
+use Rattle.bound.specs.Sound.{Sound}
+use Rattle.bound.specs.Falls.{falls, sound-moved}
+use Rattle.bound.specs.Ended.{sound-ended}
+use Rattle.bound.specs.Given.{left-given, sound-given}
+use Rattle.bound.specs.Fresh.{left-fresh, sound-fresh}
+
+-- a scan over its page: in range, and with steps enough for what is left to do
+pub record Within (page : List ℕ) (s : Scan) : Type 0 where
+  pub sound : Sound page (s .tokenizer)
+  pub room : s .used ≤ roomIn (s .tokenizer .job .words)
+  pub paid : s .steps + left page (s .tokenizer) ≤ stepBound (s .tokenizer .job)
+
+-- it is in range, as the calls test it
+pub within-range : (page : List ℕ) (s : Scan) → Within page s → scanInRange s ≡ true
+unfolding scanInRange
+within-range page s w =
+    and-yes _ _ (w .sound .range)
+    (and-yes _ _ (le-leb (s .used) (roomIn (s .tokenizer .job .words)) (w .room)) (le-leb (s .steps) (stepBound (s .tokenizer .job)) (omega (arith, w .paid))))
+
+-- ---- one step
+
+module _ (page : List ℕ) (s : Scan) (w : Within page s) (r : rests (s .tokenizer .state) ≡ false) where
+  abbrev t : Tokenizer
+  t = s .tokenizer
+
+  -- what a step leaves of the tokenizer
+  abbrev Fine : Move → Type 0
+  Fine m = Sound page (moved t m) × (left page (moved t m) + 1 ≤ left page t) × (s .used + countOf (m .marks) ≤ roomIn (t .job .words))
+
+  decided : lacks s (choice page s) ≡ false → Fine (choice page s)
+  unfolding choice
+  decided e =
+      (sound-moved page t (w .sound) r, falls page t (w .sound) r, omega (arith, w .room, ltb-false (roomIn (t .job .words) - s .used) (countOf (choice page s .marks)) e))
+
+  -- no room: the scan ends where it is
+  cut-off : Fine (retry full Nothing)
+  unfolding moved if_then_else_
+  cut-off =
+      let f = falls page t (w .sound) r in
+      (sound-ended page t full (w .sound) (omega arith), omega (arith, f, left-ended page (moved t (retry full Nothing)) (omega arith)), omega (arith, w .room))
+
+  fine : Fine (done s (choice page s))
+  fine = if-is Move Fine (lacks s (choice page s)) (retry full Nothing) (choice page s) (λ e. cut-off) decided
+
+  -- there is something left to do, so the step is counted
+  pub step-counted : stepScan page s .steps ≡ s .steps + 1
+  unfolding stepScan
+  step-counted =
+      let f = fine .1 in
+      sym (if-yes _ _ _ _ _ (lt-ltb (s .steps) (stepBound (s .tokenizer .job)) (omega (arith, f, w .paid))) refl)
+
+  pub within-step : Within page (stepScan page s)
+  unfolding stepScan moved
+  within-step =
+      record {
+        sound = fine .0;
+        room = fine .2;
+        paid = omega (arith, fine .1, w .paid, step-counted);
+      }
+
+-- ---- a run
+
+-- the steps that a run of at most k steps makes
+unfoldable pub made : List ℕ → ℕ → Scan → ℕ
+made page zero s = 0
+made page (suc k) s =
+    let r = made page k (stepScan page s) in
+    if rests (s .tokenizer .state) then 0 else r + 1
+
+pub within-run : (page : List ℕ) (k : ℕ) (s : Scan) → Within page s → Within page (runScan page k s)
+unfolding runScan if_then_else_
+within-run page zero s w = w
+within-run page (suc k) s w =
+    case _ (rests (s .tokenizer .state)) (λ e. rw e w) (λ e. rw e (within-run page k (stepScan page s) (within-step page s w e)))
+
+-- each is counted
+pub run-counted : (page : List ℕ) (k : ℕ) (s : Scan) → Within page s → runScan page k s .steps ≡ s .steps + made page k s
+unfolding runScan made if_then_else_
+run-counted page zero s w = omega arith
+run-counted page (suc k) s w =
+    case _ (rests (s .tokenizer .state)) (λ e. rw e (omega arith))
+    (λ e. rw e (omega (arith, run-counted page k (stepScan page s) (within-step page s w e), step-counted page s w e)))
+
+-- a run with steps enough for what is left comes to rest
+pub run-ends : (page : List ℕ) (k : ℕ) (s : Scan) → Within page s → left page (s .tokenizer) ≤ k → rests (runScan page k s .tokenizer .state) ≡ true
+unfolding runScan stepScan if_then_else_
+run-ends page zero s w h =
+    case _ (rests (s .tokenizer .state)) (λ e. e) (λ e. absurd (omega (arith, fine page s w e .1)))
+run-ends page (suc k) s w h =
+    case _ (rests (s .tokenizer .state)) (λ e. rw e e)
+    (λ e. rw e (run-ends page k (stepScan page s) (within-step page s w e) (omega (arith, fine page s w e .1))))
+
+-- ---- verdicts
+
+pub within-given : (page : List ℕ) (s : Scan) (v : Verdict) → Within page s → s .tokenizer .state ≡ asking → verdictInRange v ≡ true → Within page (givenScan s v)
+unfolding givenScan
+within-given page s v w e h =
+    record {
+      sound = sound-given page (s .tokenizer) v (w .sound) h;
+      room = w .room;
+      paid = omega (arith, w .paid, left-given page (s .tokenizer) v e);
+    }
+
+pub within-told : (page : List ℕ) (s : Scan) (v : Verdict) → Within page s → verdictInRange v ≡ true → Within page (toldScan s v)
+within-told page s v w h =
+    if-is Scan (Within page) (eqb (s .tokenizer .state) asking) (givenScan s v) s
+    (λ e. within-given page s v w (eqb-true (s .tokenizer .state) asking e) h)
+    (λ e. w)
+
+-- ---- a new scan
+
+pub within-fresh : (page : List ℕ) (j : Job) → jobInRange j ≡ true → length page ≡ j .length → Within page (freshScan j)
+unfolding freshScan
+within-fresh page j h l =
+    record {
+      sound = sound-fresh page j h l;
+      room = omega arith;
+      paid = omega (arith, left-fresh page j l);
+    }
+
+-- ---- a whole scan, with the verdicts that it is given
+
+-- all verdicts can be heard
+abbrev pub Heard : List Verdict → Type 0
+Heard [] = Unit {0}
+Heard (v ∷ vs) = (verdictInRange v ≡ true) × Heard vs
+
+-- the steps that it makes, applying verdicts included
+unfoldable pub madeAlone : List ℕ → ℕ → List Verdict → Scan → ℕ
+madeAlone page k [] s = made page k s
+madeAlone page k (v ∷ vs) s = made page k s + madeAlone page k vs (toldScan (runScan page k s) v)
+
+told-steps : (s : Scan) (v : Verdict) → toldScan s v .steps ≡ s .steps
+unfolding givenScan
+told-steps s v = if-is Scan (λ (r : Scan). r .steps ≡ s .steps) (eqb (s .tokenizer .state) asking) (givenScan s v) s (λ e. refl) (λ e. refl)
+
+pub within-alone : (page : List ℕ) (k : ℕ) (vs : List Verdict) (s : Scan) → Heard vs → Within page s → Within page (runAlone page k vs s)
+unfolding runAlone
+within-alone page k [] s h w = within-run page k s w
+within-alone page k (v ∷ vs) s h w = within-alone page k vs (toldScan (runScan page k s) v) (h .1) (within-told page (runScan page k s) v (within-run page k s w) (h .0))
+
+pub alone-counted : (page : List ℕ) (k : ℕ) (vs : List Verdict) (s : Scan) → Heard vs → Within page s → runAlone page k vs s .steps ≡ s .steps + madeAlone page k vs s
+unfolding runAlone madeAlone
+alone-counted page k [] s h w = run-counted page k s w
+alone-counted page k (v ∷ vs) s h w =
+    let r = runScan page k s in
+    let x = within-told page r v (within-run page k s w) (h .0) in
+    omega (arith, alone-counted page k vs (toldScan r v) (h .1) x, told-steps r v, run-counted page k s w)
+
+job-kept : (page : List ℕ) (k : ℕ) (s : Scan) → runScan page k s .tokenizer .job ≡ s .tokenizer .job
+unfolding runScan stepScan moved if_then_else_
+job-kept page zero s = refl
+job-kept page (suc k) s = case _ (rests (s .tokenizer .state)) (λ e. rw e) (λ e. rw e (job-kept page k (stepScan page s)))
+
+told-job : (s : Scan) (v : Verdict) → toldScan s v .tokenizer .job ≡ s .tokenizer .job
+unfolding givenScan
+told-job s v = if-is Scan (λ (r : Scan). r .tokenizer .job ≡ s .tokenizer .job) (eqb (s .tokenizer .state) asking) (givenScan s v) s (λ e. refl) (λ e. refl)
+
+alone-job : (page : List ℕ) (k : ℕ) (vs : List Verdict) (s : Scan) → runAlone page k vs s .tokenizer .job ≡ s .tokenizer .job
+unfolding runAlone
+alone-job page k [] s = job-kept page k s
+alone-job page k (v ∷ vs) s = alone-job page k vs (toldScan (runScan page k s) v) ∙ told-job (runScan page k s) v ∙ job-kept page k s
+
+-- Document 01, 'Steps': "A run over n bytes takes at most 8(n+1) steps", and "The reported count equals the definition's": for every
+-- construct, page, start, allowance and list of verdicts.
+pub at-most-eight-a-byte : (page : List ℕ) (j : Job) (k : ℕ) (vs : List Verdict) → jobInRange j ≡ true → length page ≡ j .length → Heard vs
+    → (runAlone page k vs (freshScan j) .steps ≡ madeAlone page k vs (freshScan j)) × (madeAlone page k vs (freshScan j) ≤ 8 * (j .length - j .start + 1))
+unfolding freshScan
+at-most-eight-a-byte page j k vs h l vr =
+    let w = within-fresh page j h l in
+    let c = alone-counted page k vs (freshScan j) vr w in
+    let a = within-alone page k vs (freshScan j) vr w in
+    let b : stepBound (runAlone page k vs (freshScan j) .tokenizer .job) ≡ stepBound j = ap stepBound (alone-job page k vs (freshScan j)) in
+    (omega (arith, c), omega (arith, c, a .paid, b))

@@ -1,0 +1,16 @@
+use mathlib.Core.Path.{sym}
+use Rattle.base.specs.If.{picks}
+use Rattle.machine.specs.Ranges.{jobInRange}
+use Rattle.machine.proofs.Job.in_range.Statement.{statement}
+use Rattle.machine.proofs.Job.in_range.Tie as tie
+
+pub in-range-spec : {M : Type 1} → statement M
+unfolding jobInRange
+in-range-spec =
+    tie.close
+    (tie.spec
+    (λ c. sym (search picks depth 12))
+    (λ c. sym (search picks depth 12))
+    (λ c. sym (search picks depth 12))
+    (λ c. sym (search picks depth 12))
+    (λ c. sym (search picks depth 12)))

@@ -1,0 +1,14 @@
+use Rattle.base.specs.If.{picks}
+use borrow.Author.Needs.{needs}
+use Rattle.mdx_esm.proofs.exits.Statement.{statement}
+use Rattle.mdx_esm.proofs.exits.Tie as tie
+
+pub exits-spec : {M : Type 1} → statement M
+exits-spec =
+    tie.close
+    (tie.spec
+    (λ c κs. search needs)
+    (λ c κs. search needs)
+    (λ c κs. search needs)
+    (λ c. search picks depth 12)
+    (λ c. search picks depth 12))

@@ -1,0 +1,15 @@
+use Rattle.base.specs.If.{picks}
+use borrow.Author.Needs.{needs}
+use Rattle.mdx_esm.proofs.line_start.Statement.{statement}
+use Rattle.mdx_esm.proofs.line_start.Tie as tie
+
+pub line-start-spec : {M : Type 1} → statement M
+line-start-spec =
+    tie.close
+    (tie.spec
+    (λ c κs. search needs)
+    (λ c κs. search needs)
+    (λ c κs. search needs)
+    (λ c. search picks depth 12)
+    (λ c. search picks depth 12)
+    (λ c. search picks depth 12))

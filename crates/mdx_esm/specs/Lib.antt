@@ -1,0 +1,2 @@
+pub mod Esm
+pub mod Word

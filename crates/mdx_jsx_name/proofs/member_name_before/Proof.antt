@@ -1,0 +1,14 @@
+use Rattle.base.specs.If.{picks}
+use borrow.Author.Needs.{needs}
+use Rattle.mdx_jsx_name.proofs.member_name_before.Statement.{statement}
+use Rattle.mdx_jsx_name.proofs.member_name_before.Tie as tie
+
+pub member-name-before-spec : {M : Type 1} → statement M
+member-name-before-spec =
+    tie.close
+    (tie.spec
+    (λ c κs. search needs)
+    (λ c κs. search needs)
+    (λ c κs. search needs)
+    (λ c. search picks depth 12)
+    (λ c. search picks depth 12))

@@ -1,0 +1,6 @@
+pub mod Rows
+pub mod Places
+pub mod Reading
+pub mod Sequences
+pub mod Meaning
+pub mod Answers

@@ -1,0 +1,32 @@
+-- A page that is handed over (document 01, the answer table, rows 2, 3 and 4).
+use Prim.Native.Nat.{ℕ, _+_, _≤_}
+use mathlib.Core.Bool.{Bool}
+use mathlib.Core.List.{List}
+use lib.Dec.{leb, ltb}
+use lib.ListN.{length, take, drop}
+use Rattle.base.specs.If.{if_then_else_}
+use Rattle.base.specs.Page.{pageLimit}
+use Rattle.page.specs.declared.Checked.{Checked}
+use Rattle.page.specs.declared.Checked.the-variants.{TooLong, BadStart}
+use Rattle.page.specs.Text.{readText}
+
+-- the part that begins at `at` and is n long lies inside lent bytes
+abbrev pub inside : ℕ → ℕ → ℕ → Bool
+inside lent at n = leb (at + n) lent
+
+abbrev pub pageOf : List ℕ → ℕ → ℕ → List ℕ
+pageOf bytes at n = take n (drop at bytes)
+
+-- short enough, the start in the page, and the page in the lent bytes
+pub record Admitted (bytes : List ℕ) (at n start : ℕ) : Type 0 where
+  pub short : n ≤ pageLimit
+  pub starts : start ≤ n
+  pub lies : at + n ≤ length bytes
+
+-- The answer, the refusals in the order of their numbers. When each is given, both ways: proofs/Answers.antt.
+abbrev pub pageCheck : List ℕ → ℕ → ℕ → ℕ → Checked
+pageCheck bytes at n start =
+    if ltb pageLimit n then TooLong
+    else if ltb n start then BadStart
+    else if inside (length bytes) at n then readText (pageOf bytes at n)
+    else BadStart

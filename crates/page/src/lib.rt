@@ -1,0 +1,156 @@
+// What must hold of a page before any scan: its length, its place in the lent bytes, and its text.
+use base::PAGE_LIMIT;
+ghost use mathlib.Core.Path.{_≡_};
+ghost use Prim.Native.Nat.{_+_, _<_};
+ghost use lib.ListN.{length, getD, drop};
+ghost use mathlib.Core.List.{[], _∷_};
+ghost use Rattle.base.specs.If.{if_then_else_};
+ghost use Rattle.page.specs.Utf8.{holdsAt, begins, tail, sequence};
+ghost use Rattle.page.specs.Text.{readText};
+ghost use Rattle.page.specs.Page.{inside, pageCheck};
+
+// The byte that no page may hold, though UTF-8 has it.
+const CARRIAGE_RETURN: u8 = 13;
+
+// What a page is answered. The three refusals are the answers 2, 3 and 4 of the answer table.
+pub enum Checked {
+    Good,
+    // Over the limit.
+    TooLong,
+    // The start is past the page's end, or the page is not inside the lent bytes.
+    BadStart,
+    // Ill-formed UTF-8, or a carriage return. The first offset at fault, counted from the page's first byte.
+    BadText(usize),
+}
+
+// The page that begins at `at` and is `length` long lies inside `lent` bytes. The difference is
+// taken, and not the sum, which could wrap.
+pub fn lies_inside(lent: usize, at: usize, length: usize) -> bool
+    ensures { λ r. ⌜ r ≡ inside lent at length ⌝ }
+{
+    if lent < at {
+        return false;
+    }
+    if lent - at < length {
+        return false;
+    }
+    true
+}
+
+// A page of the lent bytes, tested in the order of the answers' numbers.
+pub fn check(bytes: &[u8], at: usize, length: usize, start: usize) -> Checked
+    ensures { λ r. ⌜ r ≡ pageCheck (now (bytes .entry)) at length start ⌝ }
+{
+    if PAGE_LIMIT < length {
+        return Checked::TooLong;
+    }
+    if length < start {
+        return Checked::BadStart;
+    }
+    if lies_inside(bytes.len(), at, length) {
+        let end = at + length;
+        return text(&bytes[at..end]);
+    }
+    Checked::BadStart
+}
+
+// One pass over the page. Most bytes of most pages are ASCII, so that is asked first.
+fn text(page: &[u8]) -> Checked
+    ensures { λ r. ⌜ r ≡ readText (now (page .entry)) ⌝ }
+{
+    let mut at = 0;
+    while at < page.len() {
+        let byte = page[at];
+        if byte < 0x80 {
+            if byte == CARRIAGE_RETURN {
+                return Checked::BadText(at);
+            }
+            at += 1;
+        } else {
+            let size = size_at(page, at, byte);
+            if size == 0 {
+                return Checked::BadText(at);
+            }
+            at += size;
+        }
+    }
+    Checked::Good
+}
+
+// How many bytes the sequence takes that begins at the place, whose byte is `byte`; 0 where no
+// sequence begins there. The arms are the rows of Unicode's Table 3-7.
+fn size_at(page: &[u8], at: usize, byte: u8) -> usize
+    requires { ⌜ at < length (now page) ⌝ }
+    requires { ⌜ byte ≡ getD (now page) at 0 ⌝ }
+    ensures { λ r. ⌜ r ≡ sequence (drop at (now (page .entry))) ⌝ }
+{
+    match byte {
+        0x00..=0x7F => 1,
+        0xC2..=0xDF => two(page, at),
+        0xE0 => three(page, at, 0xA0, 0xBF),
+        0xE1..=0xEC => three(page, at, 0x80, 0xBF),
+        0xED => three(page, at, 0x80, 0x9F),
+        0xEE..=0xEF => three(page, at, 0x80, 0xBF),
+        0xF0 => four(page, at, 0x90, 0xBF),
+        0xF1..=0xF3 => four(page, at, 0x80, 0xBF),
+        0xF4 => four(page, at, 0x80, 0x8F),
+        _ => 0,
+    }
+}
+
+// A byte stands at the place, and it lies in the range.
+fn stands(page: &[u8], at: usize, low: u8, high: u8) -> bool
+    ensures { λ r. ⌜ r ≡ holdsAt (now (page .entry)) at (low, high) ⌝ }
+{
+    if page.len() <= at {
+        return false;
+    }
+    let byte = page[at];
+    if byte < low {
+        return false;
+    }
+    if high < byte {
+        return false;
+    }
+    true
+}
+
+// The sequence of two bytes that begins at the place goes on as its row says. What is answered here
+// and below is the length of the sequence, or 0.
+fn two(page: &[u8], at: usize) -> usize
+    requires { ⌜ at < length (now page) ⌝ }
+    ensures { λ r. ⌜ r ≡ (if begins (tail ∷ []) (drop (at + 1) (now (page .entry))) then 2 else 0) ⌝ }
+{
+    if stands(page, at + 1, 0x80, 0xBF) {
+        return 2;
+    }
+    0
+}
+
+// Three bytes, of which the second lies in a range of its own.
+fn three(page: &[u8], at: usize, low: u8, high: u8) -> usize
+    requires { ⌜ at < length (now page) ⌝ }
+    ensures { λ r. ⌜ r ≡ (if begins ((low, high) ∷ tail ∷ []) (drop (at + 1) (now (page .entry))) then 3 else 0) ⌝ }
+{
+    if stands(page, at + 1, low, high) {
+        if stands(page, at + 2, 0x80, 0xBF) {
+            return 3;
+        }
+    }
+    0
+}
+
+// Four bytes, of which the second lies in a range of its own.
+fn four(page: &[u8], at: usize, low: u8, high: u8) -> usize
+    requires { ⌜ at < length (now page) ⌝ }
+    ensures { λ r. ⌜ r ≡ (if begins ((low, high) ∷ tail ∷ tail ∷ []) (drop (at + 1) (now (page .entry))) then 4 else 0) ⌝ }
+{
+    if stands(page, at + 1, low, high) {
+        if stands(page, at + 2, 0x80, 0xBF) {
+            if stands(page, at + 3, 0x80, 0xBF) {
+                return 4;
+            }
+        }
+    }
+    0
+}

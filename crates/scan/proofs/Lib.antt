@@ -1,0 +1,5 @@
+pub mod Pausing
+pub mod Ranged
+pub mod Runs
+pub mod ShortWay
+pub mod Steps

@@ -1,0 +1,65 @@
+-- What the tests of a call tell of a scan.
+use Prim.Native.Nat.{ℕ, _+_, _≤_, _<_}
+use native.Mathlib.Omega.{arith}
+use mathlib.Core.Path.{_≡_, sym}
+use mathlib.Core.Bool.{true, _&&_}
+use lib.Dec.{leb, ltb, eqb}
+use borrow.Author.Tests.{leb-true, eqb-true}
+use Rattle.base.specs.If.{both}
+use Rattle.words.specs.Words.{roomIn}
+use Rattle.machine.specs.declared.Tokenizer.{Tokenizer}
+use Rattle.base.specs.Page.{pageLimit}
+use Rattle.machine.specs.Ranges.{jobInRange, listed, placesInRange, numbersInRange, isReturn, regsInRange, verdictInRange, inRange}
+use Rattle.scan.specs.declared.Scan.{Scan}
+use Rattle.scan.specs.Scan.{stepBound, Fit}
+use Rattle.scan.specs.Call.{scanInRange, runnable}
+
+-- the numbers that a step counts with
+pub record Ranged (t : Tokenizer) : Type 0 where
+  pub at : t .at ≤ t .job .length
+  pub short : t .job .length ≤ pageLimit
+  pub start : t .job .start ≤ t .job .length
+  pub saved : t .regs .saved ≤ t .job .length
+
+pub ranged : (t : Tokenizer) → inRange t ≡ true → Ranged t
+unfolding inRange jobInRange regsInRange placesInRange
+ranged t e =
+    let a = both (leb (t .at) (t .job .length)) _ e in
+    let j = both (jobInRange (t .job)) _ (a .1) in
+    let l = both (listed (t .job .construct) (t .state)) _ (j .1) in
+    let r = both (regsInRange (t .job .length) (t .regs)) _ (l .1) in
+    let j₂ = both (leb (t .job .construct) 2) _ (j .0) in
+    let j₃ = both (leb (t .job .kind) 1) _ (j₂ .1) in
+    let j₄ = both (leb (t .job .length) pageLimit) _ (j₃ .1) in
+    let r₂ = both (isReturn (t .regs .back)) _ (r .0) in
+    let r₃ = both (numbersInRange (t .regs)) _ (r₂ .1) in
+    let r₄ = both (leb (t .regs .saved) (t .job .length)) _ (r₃ .1) in
+    record {
+      at = leb-true (t .at) (t .job .length) (a .0);
+      short = leb-true (t .job .length) pageLimit (j₄ .0);
+      start = leb-true (t .job .start) (t .job .length) (j₄ .1);
+      saved = leb-true (t .regs .saved) (t .job .length) (r₄ .0);
+    }
+
+-- a scan that a run takes fits its page and its words
+pub fit-of : (s : Scan) (n w allowance : ℕ) → runnable s n w allowance ≡ true → Fit s n w
+unfolding runnable scanInRange
+fit-of s n w allowance e =
+    let a = both (ltb 0 allowance) _ e in
+    let b = both (leb 32 (s .tokenizer .state)) _ (a .1) in
+    let c = both (eqb n (s .tokenizer .job .length)) _ (b .1) in
+    let d = both (eqb w (s .tokenizer .job .words)) _ (c .1) in
+    let f = both (inRange (s .tokenizer)) _ (d .1) in
+    let g = both (leb (s .used) (roomIn (s .tokenizer .job .words))) _ (f .1) in
+    let r = ranged (s .tokenizer) (f .0) in
+    let l : s .tokenizer .job .length ≡ n = sym (eqb-true n (s .tokenizer .job .length) (c .0)) in
+    let k : s .tokenizer .job .words ≡ w = sym (eqb-true w (s .tokenizer .job .words) (d .0)) in
+    record {
+      long = l;
+      short = omega (arith, r .short);
+      start = omega (arith, r .start);
+      at = omega (arith, r .at);
+      saved = omega (arith, r .saved);
+      words = k;
+      used = omega (arith, leb-true (s .used) (roomIn (s .tokenizer .job .words)) (g .0));
+    }

@@ -1,0 +1,5 @@
+pub mod Lines
+pub mod Same
+pub mod Digits
+pub mod Pairs
+pub mod Decoding

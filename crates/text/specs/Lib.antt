@@ -1,0 +1,5 @@
+pub mod Part
+pub mod Find
+pub mod Word
+pub mod Decimal
+pub mod Hex

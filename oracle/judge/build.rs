@@ -1,0 +1,210 @@
+//! Assembles the judge's source tree.
+//!
+//! Three kinds of files go into `OUT_DIR/crate`:
+//!
+//! * **given** files, written byte for byte as they were read;
+//! * **stand-ins** that we wrote for files that aren't given (`stand-ins/`);
+//! * **absent** modules, generated here: whatever else the given module lists
+//!   and tables name. Each of their functions stops the run when called.
+//!
+//! So the state table (`state.rs`), the resolver table (`resolve.rs`) and the
+//! module lists (`construct/mod.rs`, `util/mod.rs`) can be the given ones,
+//! unchanged, though most of the modules they name are not there.
+
+use std::collections::{BTreeMap, BTreeSet};
+use std::env;
+use std::fmt::Write as _;
+use std::fs;
+use std::path::{Path, PathBuf};
+
+/// Where the given files are, unless `TARREDLATH_DOCS_SRC` says otherwise.
+/// Relative paths count from the project's root.
+const DEFAULT_GIVEN: &str = "../shared/docs/src";
+
+/// Given files that become part of the judge.
+const GIVEN: [&str; 17] = [
+    "construct/mdx_esm.rs",
+    "construct/mod.rs",
+    "construct/partial_mdx_expression.rs",
+    "construct/partial_mdx_jsx.rs",
+    "construct/partial_space_or_tab.rs",
+    "message.rs",
+    "parser.rs",
+    "resolve.rs",
+    "state.rs",
+    "subtokenize.rs",
+    "tokenizer.rs",
+    "unist.rs",
+    "util/char.rs",
+    "util/constant.rs",
+    "util/mdx_collect.rs",
+    "util/mod.rs",
+    "util/slice.rs",
+];
+
+fn main() {
+    let package = PathBuf::from(env::var("CARGO_MANIFEST_DIR").expect("manifest directory"));
+    let tree = PathBuf::from(env::var("OUT_DIR").expect("output directory")).join("crate");
+    println!("cargo:rerun-if-env-changed=TARREDLATH_DOCS_SRC");
+    println!("cargo:rerun-if-changed=build.rs");
+    println!("cargo:rerun-if-changed=stand-ins");
+
+    let root = package.join("../..");
+    let given = root.join(env::var("TARREDLATH_DOCS_SRC").unwrap_or_else(|_| DEFAULT_GIVEN.into()));
+
+    // An older assembly may hold files that no longer belong to it.
+    if tree.exists() {
+        fs::remove_dir_all(&tree).expect("remove the older assembly");
+    }
+
+    let mut present = BTreeSet::new();
+    for path in GIVEN {
+        let file = given.join(given_name(path));
+        println!("cargo:rerun-if-changed={}", file.display());
+        let bytes = fs::read(&file).unwrap_or_else(|problem| {
+            panic!(
+                "cannot read the given file {}: {problem} (set TARREDLATH_DOCS_SRC)",
+                file.display()
+            )
+        });
+        put(&tree, path, &bytes);
+        present.insert(path.to_string());
+    }
+
+    for path in files_below(&package.join("stand-ins")) {
+        assert!(
+            present.insert(path.clone()),
+            "{path} is given: it can't have a stand-in"
+        );
+        put(
+            &tree,
+            &path,
+            &fs::read(package.join("stand-ins").join(&path)).expect("read a stand-in"),
+        );
+    }
+
+    let absent = absent_functions(&tree);
+    for directory in ["construct", "util"] {
+        for module in declared_modules(&read(&tree.join(directory).join("mod.rs"))) {
+            let path = format!("{directory}/{module}.rs");
+            if !present.contains(&path) {
+                let functions = absent.get(&module).map_or("", String::as_str);
+                put(&tree, &path, functions.as_bytes());
+            }
+        }
+    }
+}
+
+/// `construct/mdx_esm.rs` is given as `src--src--construct--mdx_esm.rs.txt`.
+fn given_name(path: &str) -> String {
+    format!("src--src--{}.txt", path.replace('/', "--"))
+}
+
+/// Names in lines of the form `pub mod name;`.
+fn declared_modules(source: &str) -> Vec<String> {
+    source
+        .lines()
+        .filter_map(|line| line.strip_prefix("pub mod ")?.strip_suffix(';'))
+        .map(String::from)
+        .collect()
+}
+
+/// For each construct that the state table or the resolver table names: the
+/// source of functions of those names that must never be called.
+fn absent_functions(tree: &Path) -> BTreeMap<String, String> {
+    let mut modules: BTreeMap<String, BTreeSet<(String, &str)>> = BTreeMap::new();
+    let states = read(&tree.join("state.rs"));
+    let resolvers = read(&tree.join("resolve.rs"));
+
+    for (module, function, _) in construct_paths(&states) {
+        modules
+            .entry(module)
+            .or_default()
+            .insert((function, "crate::state::State"));
+    }
+    for (module, function, rest) in construct_paths(&resolvers) {
+        // A resolver that can fail is followed by a question mark.
+        let result = if rest.starts_with("(tokenizer)?") {
+            "Result<Option<crate::subtokenize::Subresult>, crate::message::Message>"
+        } else {
+            "Option<crate::subtokenize::Subresult>"
+        };
+        modules
+            .entry(module)
+            .or_default()
+            .insert((function, result));
+    }
+
+    modules
+        .into_iter()
+        .map(|(module, functions)| {
+            let mut source = String::new();
+            for (function, result) in functions {
+                writeln!(
+                    source,
+                    "pub fn {function}(_: &mut crate::tokenizer::Tokenizer) -> {result} {{\n    \
+                     unreachable!(\"`{module}::{function}` is not part of the judge\")\n}}"
+                )
+                .expect("write to a string");
+            }
+            (module, source)
+        })
+        .collect()
+}
+
+/// Each `construct::module::function` outside comments, with what follows it.
+fn construct_paths(source: &str) -> Vec<(String, String, &str)> {
+    let mut found = vec![];
+    for line in source.lines().filter(|d| !d.trim_start().starts_with("//")) {
+        let mut rest = line;
+        while let Some(at) = rest.find("construct::") {
+            rest = &rest[at + "construct::".len()..];
+            let (module, after) = word(rest);
+            if let Some(after) = after.strip_prefix("::") {
+                let (function, after) = word(after);
+                found.push((module.to_string(), function.to_string(), after));
+                rest = after;
+            }
+        }
+    }
+    found
+}
+
+/// The identifier that `text` begins with, and what follows it.
+fn word(text: &str) -> (&str, &str) {
+    let end = text
+        .find(|d: char| !d.is_ascii_alphanumeric() && d != '_')
+        .unwrap_or(text.len());
+    text.split_at(end)
+}
+
+/// Paths of the files below a directory, relative to it, with `/` between
+/// their parts.
+fn files_below(directory: &Path) -> Vec<String> {
+    let mut paths = vec![];
+    for entry in fs::read_dir(directory).expect("list stand-ins") {
+        let entry = entry.expect("list stand-ins");
+        let name = entry.file_name().into_string().expect("a plain file name");
+        if entry.path().is_dir() {
+            paths.extend(
+                files_below(&entry.path())
+                    .iter()
+                    .map(|d| format!("{name}/{d}")),
+            );
+        } else {
+            paths.push(name);
+        }
+    }
+    paths.sort();
+    paths
+}
+
+fn read(path: &Path) -> String {
+    fs::read_to_string(path).expect("read an assembled file")
+}
+
+fn put(tree: &Path, path: &str, bytes: &[u8]) {
+    let file = tree.join(path);
+    fs::create_dir_all(file.parent().expect("a directory")).expect("make a directory");
+    fs::write(&file, bytes).expect("write an assembled file");
+}

@@ -1,0 +1,13 @@
+//! The judge: the given modules of the crate `markdown` 1.0.0, unchanged, with
+//! a test-only door to their states and events.
+//!
+//! The build script assembles the modules; see there, and the README, for what
+//! is given and what stands in.
+
+include!(concat!(env!("OUT_DIR"), "/crate/modules.rs"));
+
+mod domain;
+mod door;
+mod reading;
+
+pub use door::{Answer, Construct, Judge, Kind, Mark, Outcome, Scan, Verdict};

@@ -1,0 +1,181 @@
+//! Compares the oracle's lines with the product's, case by case.
+//!
+//! `compare ORACLE OURS`, each a file or `-` for standard input. Both hold the
+//! same cases in the same order:
+//!
+//! * the oracle's: `CASE => ANSWER | events ..`;
+//! * ours: `CASE => ANSWER | steps N | events ..`.
+//!
+//! Steps are not the crate's and aren't compared. At Nok the crate takes its
+//! events back, so there only the answer is. What the oracle calls `Outside`
+//! is counted and not compared. Leaves with status 1 where something differs.
+
+use std::fs::File;
+use std::io::{self, BufRead, BufReader};
+use std::process::ExitCode;
+
+/// Differences shown in full, unless `--show N` says otherwise.
+const SHOWN: u64 = 20;
+
+/// A line taken apart.
+#[derive(Debug, PartialEq)]
+struct Line<'a> {
+    case: &'a str,
+    answer: &'a str,
+    events: Option<&'a str>,
+}
+
+#[derive(Default)]
+struct Counts {
+    cases: u64,
+    compared: u64,
+    with_events: u64,
+    outside: u64,
+    differ: u64,
+}
+
+fn main() -> ExitCode {
+    let mut shown = SHOWN;
+    let mut paths = vec![];
+    let mut arguments = std::env::args().skip(1);
+    while let Some(argument) = arguments.next() {
+        if argument == "--show" {
+            match arguments.next().and_then(|d| d.parse().ok()) {
+                Some(number) => shown = number,
+                None => return usage(),
+            }
+        } else {
+            paths.push(argument);
+        }
+    }
+    let [oracle, ours] = paths.as_slice() else {
+        return usage();
+    };
+
+    match compare(oracle, ours, shown) {
+        Err(problem) => {
+            eprintln!("compare: {problem}");
+            ExitCode::from(2)
+        }
+        Ok(counts) => {
+            println!(
+                "{} cases, {} compared ({} with their events), {} outside the domain, {} differ",
+                counts.cases, counts.compared, counts.with_events, counts.outside, counts.differ
+            );
+            if counts.differ > 0 {
+                ExitCode::FAILURE
+            } else {
+                ExitCode::SUCCESS
+            }
+        }
+    }
+}
+
+fn usage() -> ExitCode {
+    eprintln!("usage: compare [--show N] ORACLE OURS   (files, or - for standard input)");
+    ExitCode::from(2)
+}
+
+fn compare(oracle: &str, ours: &str, shown: u64) -> io::Result<Counts> {
+    let mut oracle = open(oracle)?;
+    let mut ours = open(ours)?;
+    let (mut expected, mut actual) = (String::new(), String::new());
+    let mut counts = Counts::default();
+
+    loop {
+        let more_expected = next(&mut *oracle, &mut expected)?;
+        let more_actual = next(&mut *ours, &mut actual)?;
+        if !more_expected && !more_actual {
+            return Ok(counts);
+        }
+        counts.cases += 1;
+        let why = if !more_actual {
+            Some("our line is missing")
+        } else if !more_expected {
+            Some("the oracle's line is missing")
+        } else {
+            judge(&expected, &actual, &mut counts)
+        };
+        if let Some(why) = why {
+            counts.differ += 1;
+            if counts.differ <= shown {
+                println!("DIFFERS line {}: {why}", counts.cases);
+                println!("  oracle: {expected}");
+                println!("  ours:   {actual}");
+            }
+        }
+    }
+}
+
+fn open(path: &str) -> io::Result<Box<dyn BufRead>> {
+    Ok(if path == "-" {
+        Box::new(io::stdin().lock())
+    } else {
+        Box::new(BufReader::with_capacity(1 << 20, File::open(path)?))
+    })
+}
+
+/// Read the next line about a case, passing over the sum that the product's
+/// program writes last (`N cases, N compared, N differ`).
+fn next(input: &mut dyn BufRead, line: &mut String) -> io::Result<bool> {
+    loop {
+        line.clear();
+        if input.read_line(line)? == 0 {
+            return Ok(false);
+        }
+        if line.ends_with('\n') {
+            line.pop();
+        }
+        if !(line.contains(" cases, ") && line.ends_with(" differ")) {
+            return Ok(true);
+        }
+    }
+}
+
+/// Say how two lines differ.
+fn judge(expected: &str, actual: &str, counts: &mut Counts) -> Option<&'static str> {
+    let (Some(expected), Some(actual)) = (take_apart(expected), take_apart(actual)) else {
+        return Some("not a line about a case");
+    };
+    if expected.case != actual.case {
+        return Some("another case");
+    }
+    if expected.answer.starts_with("Outside") {
+        counts.outside += 1;
+        return None;
+    }
+    counts.compared += 1;
+    if expected.answer == "Panic" {
+        return Some("the crate panicked");
+    }
+    if expected.answer != actual.answer {
+        return Some("answers");
+    }
+    if expected.answer == "Nok" {
+        return None;
+    }
+    counts.with_events += 1;
+    if expected.events.is_none() || expected.events != actual.events {
+        return Some("events");
+    }
+    None
+}
+
+/// Take `CASE => ANSWER [| steps N] [| events ..]` apart.
+fn take_apart(line: &str) -> Option<Line<'_>> {
+    let (case, rest) = line.split_once(" => ")?;
+    let mut parts = rest.split(" | ");
+    let mut line = Line {
+        case,
+        answer: parts.next()?,
+        events: None,
+    };
+    for part in parts {
+        if let Some(events) = part.strip_prefix("events") {
+            line.events = Some(events.trim_start());
+        } else if !part.starts_with("steps ") {
+            return None;
+        }
+    }
+    Some(line)
+}

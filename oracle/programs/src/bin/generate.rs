@@ -1,0 +1,121 @@
+//! Writes sets of cases, the same ones for the same arguments.
+
+use programs::sets::{boundaries, exhaustive, random, starts, states, Sink};
+use std::io::{self, BufWriter, Write};
+use std::process::ExitCode;
+
+const USAGE: &str = "\
+usage: generate [OPTION..] SET..
+
+sets:
+  settled      document 01's bench cases and other settled points
+  large        empty, one-byte, long and deep pages
+  starts       scans that start anywhere in a page
+  states       every state met with every ASCII byte, and ways on
+  tags         every tag over small alphabets
+  expressions  every expression over small alphabets
+  esm          every ESM over small alphabets
+  valid        valid constructs by chance
+  broken       constructs by chance, with errors worked in
+  all          all of these
+
+options:
+  --seed N     seed of chance (1)
+  --count N    how many cases each of `valid` and `broken` draws (100000)
+  --longest N  their longest construct, about, in bytes (4096)
+  --depth N    letters after the beginning in `tags`, `expressions`, `esm` (5)
+  --allowances have each case run in pieces (`allowance=`, by chance)
+";
+
+const SETS: [&str; 9] = [
+    "settled",
+    "large",
+    "starts",
+    "states",
+    "tags",
+    "expressions",
+    "esm",
+    "valid",
+    "broken",
+];
+
+struct Options {
+    seed: u64,
+    count: usize,
+    longest: usize,
+    depth: usize,
+    allowances: bool,
+    sets: Vec<String>,
+}
+
+fn main() -> ExitCode {
+    let Some(options) = options() else {
+        eprint!("{USAGE}");
+        return ExitCode::from(2);
+    };
+    match generate(&options) {
+        Ok(()) => ExitCode::SUCCESS,
+        // Whoever reads may have seen enough.
+        Err(problem) if problem.kind() == io::ErrorKind::BrokenPipe => ExitCode::SUCCESS,
+        Err(problem) => {
+            eprintln!("generate: {problem}");
+            ExitCode::FAILURE
+        }
+    }
+}
+
+fn options() -> Option<Options> {
+    let mut options = Options {
+        seed: 1,
+        count: 100_000,
+        longest: 4096,
+        depth: 5,
+        allowances: false,
+        sets: vec![],
+    };
+    let mut arguments = std::env::args().skip(1);
+    while let Some(argument) = arguments.next() {
+        match argument.as_str() {
+            "--seed" => options.seed = arguments.next()?.parse().ok()?,
+            "--count" => options.count = arguments.next()?.parse().ok()?,
+            "--longest" => options.longest = arguments.next()?.parse().ok()?,
+            "--depth" => options.depth = arguments.next()?.parse().ok()?,
+            "--allowances" => options.allowances = true,
+            "all" => options.sets.extend(SETS.map(String::from)),
+            set if SETS.contains(&set) => options.sets.push(set.into()),
+            _ => return None,
+        }
+    }
+    (!options.sets.is_empty()).then_some(options)
+}
+
+fn generate(options: &Options) -> io::Result<()> {
+    let output = BufWriter::with_capacity(1 << 20, io::stdout().lock());
+    let mut sink = Sink::new(output, options.seed);
+    sink.allowances = options.allowances;
+    for set in &options.sets {
+        let before = (sink.written, sink.outside);
+        put(&mut sink, set, options)?;
+        eprintln!(
+            "{set}: {} cases, {} left out as outside the domain",
+            sink.written - before.0,
+            sink.outside - before.1
+        );
+    }
+    sink.finish()
+}
+
+fn put<W: Write>(sink: &mut Sink<W>, set: &str, options: &Options) -> io::Result<()> {
+    match set {
+        "settled" => boundaries::settled(sink),
+        "large" => boundaries::large(sink),
+        "starts" => starts::all(sink),
+        "states" => states::all(sink),
+        "tags" => exhaustive::tags(sink, options.depth),
+        "expressions" => exhaustive::expressions(sink, options.depth),
+        "esm" => exhaustive::esm(sink, options.depth),
+        "valid" => random::all(sink, options.count, options.longest, false),
+        "broken" => random::all(sink, options.count, options.longest, true),
+        _ => unreachable!("sets are checked before"),
+    }
+}

@@ -1,0 +1,171 @@
+//! Document 01's bench cases, points that had to be settled by a run, and
+//! pages that are long or deep.
+
+use super::{Sink, LONGEST_PAGE};
+use crate::case::Case;
+use judge::Construct::{Esm, Expression, Tag};
+use judge::{Construct, Kind, Verdict};
+use std::io::{self, Write};
+
+/// Small pages whose answers settle the definition.
+const SETTLED: [(Construct, &str); 50] = [
+    // Bench cases.
+    (Expression, "{}"),
+    (Expression, "{a}"),
+    (Expression, "{a{b}c}"),
+    (Expression, "{a"),
+    (Expression, "{a}b}"),
+    (Tag, "<a>"),
+    (Tag, "<>"),
+    (Tag, "< a>"),
+    (Tag, "<a.b:c>"),
+    (Tag, "<a:b.c>"),
+    (Tag, "<a b=\"c\">"),
+    (Tag, "<a b=<"),
+    (Tag, "<!--"),
+    (Tag, "<a b=\"c"),
+    (Esm, "import a"),
+    (Esm, "imports a"),
+    // White space after `=`.
+    (Tag, "<a b= \"c\"/>"),
+    (Tag, "<a b:d= \"c\"/>"),
+    (Tag, "<a b=\n\"c\"/>"),
+    (Tag, "<a b:d=\n\"c\"/>"),
+    (Tag, "<a b="),
+    (Tag, "<a b:d="),
+    // Lines of a quoted value.
+    (Tag, "<a b=\"c\n"),
+    (Tag, "<a b=\"c\n  d\"/>"),
+    // An unfinished verdict outlives its expression.
+    (Tag, "<a {}} b={"),
+    // The exit of ESM after a look-ahead.
+    (Esm, "import a\n\n"),
+    (Esm, "import a\n"),
+    (Esm, "import a\n \nb"),
+    (Esm, "import a\n\n\n"),
+    // Lines of an expression.
+    (Expression, "{a\n  b}"),
+    (Expression, "{a\n   \n}"),
+    // Slashes, notes, names.
+    (Tag, "</a/>"),
+    (Tag, "</ a>"),
+    (Tag, "<a$b>"),
+    (Tag, "<a-b>"),
+    (Tag, "<\u{b}a>"),
+    (Tag, "<a b c=\"d\" {...e} f={g}/>"),
+    (Tag, "<!"),
+    (Tag, "</!"),
+    (Tag, "<*"),
+    (Tag, "</*"),
+    (Tag, "<//"),
+    (Tag, "<a/*"),
+    (Tag, "<a//"),
+    (Tag, "<a@b>"),
+    (Tag, "<a.b@c>"),
+    (Tag, "<a:b@c>"),
+    (Tag, "<a:9"),
+    (Tag, "<a:+"),
+    (Tag, "<a:/"),
+];
+
+/// The settled points, in both modes and kinds, with all verdicts.
+pub fn settled<W: Write>(sink: &mut Sink<W>) -> io::Result<()> {
+    for (construct, page) in SETTLED {
+        for asks in [false, true] {
+            for kind in [Kind::Flow, Kind::Text] {
+                let mut case = Case::new(construct, asks, page);
+                case.kind = kind;
+                sink.put_all(&mut case, 3)?;
+            }
+        }
+    }
+    Ok(())
+}
+
+/// No bytes, one byte, many bytes.
+pub fn large<W: Write>(sink: &mut Sink<W>) -> io::Result<()> {
+    for construct in [Expression, Tag, Esm] {
+        for asks in [false, true] {
+            sink.put_all(&mut Case::new(construct, asks, ""), 1)?;
+            for byte in (0..128).filter(|d| *d != b'\r') {
+                sink.put_all(&mut Case::new(construct, asks, [byte]), 1)?;
+            }
+        }
+    }
+
+    for size in [1, 2, 3, 7, 100, 999, 1000, 4096, 12_345] {
+        let many = |text: &str| text.repeat(size);
+        let lines = |text: &str| text.repeat(size.min(3000));
+        for page in [
+            format!("<{}>", many("a")),
+            format!("<{}", many("a")),
+            format!("<a.{} />", many("b")),
+            format!("<a{}>", many(".b")),
+            format!("<a:{}>", many("b")),
+            format!("<a {}>", many("b")),
+            format!("<a{}/>", lines(" b=\"c\"")),
+            format!("<a{}/>", lines(" b")),
+            format!("<a b:{}='c'>", many("d")),
+            format!("<a b=\"{}\">", many("c")),
+            format!("<a b=\"{}", many("c")),
+            format!("<a b=\"{}\">", many("é")),
+            format!("<a b='{}'>", lines("c\n  ")),
+            format!("<a{}>", many(" ")),
+            format!("<a{}>", many("\n")),
+            format!("<a{}", many("\t")),
+            format!("<a {}{}>", many("{"), many("}")),
+            format!("<a {{{}}}>", many("b")),
+            format!("</{}a{}>", many(" "), many("\n ")),
+        ] {
+            put_large(sink, Tag, &page)?;
+        }
+        for page in [
+            format!("{{{}}}", many("a")),
+            format!("{{{}", many("a")),
+            format!("{}{}", many("{"), many("}")),
+            format!("{}{}", many("{"), "}".repeat(size - 1)),
+            format!("{{{}}}", many("é")),
+            format!("{{{}}}", many("\n")),
+            format!("{{{}}}", lines("a\n  ")),
+            format!("{{{}}}", lines("\n   b")),
+            format!("{{{}}}", many(" ")),
+        ] {
+            put_large(sink, Expression, &page)?;
+        }
+        for page in [
+            format!("import {}", many("a")),
+            format!("import {}", many("é")),
+            format!("{} a", many("import")),
+            format!("export {}", many(" ")),
+            format!("export {}\n{}\nb", lines("a\n"), many(" ")),
+            format!("export a{}", lines("\n\t b")),
+            format!("import a{}b", "\n".repeat(size.min(60))),
+            format!("import a{}b", "\n\n c".repeat(size.min(30))),
+        ] {
+            put_large(sink, Esm, &page)?;
+        }
+    }
+    Ok(())
+}
+
+/// Counting; with a source that is always Ok; and with one that is unfinished
+/// so often (the crate collects the whole body anew for each verdict).
+fn put_large<W: Write>(sink: &mut Sink<W>, construct: Construct, page: &str) -> io::Result<()> {
+    if page.len() > LONGEST_PAGE {
+        return Ok(());
+    }
+    let unfinished = |number| Verdict::Unfinished { number };
+    sink.put(&Case::new(construct, false, page))?;
+    for verdicts in [
+        vec![],
+        vec![Verdict::Ok; 3],
+        vec![unfinished(65_535), Verdict::Ok],
+        (1..=64).map(unfinished).collect(),
+        (1..=20).map(unfinished).chain([Verdict::Ok]).collect(),
+    ] {
+        let mut case = Case::new(construct, true, page);
+        case.verdicts = verdicts;
+        sink.put(&case)?;
+    }
+    Ok(())
+}

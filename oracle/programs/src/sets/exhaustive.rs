@@ -1,0 +1,99 @@
+//! Every page over a small alphabet, up to a length.
+//!
+//! A page is made longer only where its run came to its end: a run that was
+//! over before would only be repeated.
+
+use super::{kind_for, Sink};
+use crate::case::Case;
+use judge::Construct;
+use std::io::{self, Write};
+
+/// How a page begins, what it goes on with, and how much further than asked.
+type Family = (&'static str, &'static [&'static str], usize);
+
+const TAGS: [Family; 8] = [
+    (
+        "<",
+        &["a", "-", " ", "\n", "/", ">", ".", ":", "=", "\"", "{", "}"],
+        0,
+    ),
+    (
+        "</",
+        &["a", "1", "\u{b}", "\n", "/", ">", ".", ":", "{", "}"],
+        0,
+    ),
+    (
+        "<a ",
+        &["b", " ", "\t", "/", ">", ":", "=", "'", "{", "}"],
+        0,
+    ),
+    ("<a b=", &["\"", "'", " ", "\n", "c", "é", ">", "/"], 0),
+    ("<a b:c", &["\"", " ", "\n", "=", "{", "}", ">", "/"], 0),
+    ("<a b=\"", &["\"", "'", " ", "\n", "\t", "é", "{", ">"], 0),
+    ("<a {", &["{", "}", " ", "\n", "b", "=", ">", "/"], 0),
+    ("<a.b", &[".", ":", "c", " ", "\n", "/", ">"], 0),
+];
+
+const EXPRESSIONS: [Family; 2] = [
+    ("{", &["{", "}", " ", "\n", "a"], 2),
+    ("{", &["}", " ", "\n", "\t", "é", "{"], 1),
+];
+
+const ESM: [Family; 3] = [
+    ("import ", &["a", " ", "\n", "\t"], 2),
+    ("export {a\n", &["}", "é", " ", "\n"], 2),
+    ("import", &["s", " ", "\n", "\t", "A", "1", "{"], 0),
+];
+
+/// Tags in both modes.
+pub fn tags<W: Write>(sink: &mut Sink<W>, depth: usize) -> io::Result<()> {
+    for (begin, alphabet, further) in TAGS {
+        for asks in [false, true] {
+            let mut case = Case::new(Construct::Tag, asks, begin);
+            grow(sink, &mut case, alphabet, depth + further, 3)?;
+        }
+    }
+    Ok(())
+}
+
+/// Expressions in both modes.
+pub fn expressions<W: Write>(sink: &mut Sink<W>, depth: usize) -> io::Result<()> {
+    for (begin, alphabet, further) in EXPRESSIONS {
+        for asks in [false, true] {
+            let mut case = Case::new(Construct::Expression, asks, begin);
+            grow(sink, &mut case, alphabet, depth + further, 4)?;
+        }
+    }
+    Ok(())
+}
+
+/// ESM with a verdict source. Every page is made longer: at its end a run asks
+/// where it otherwise would not.
+pub fn esm<W: Write>(sink: &mut Sink<W>, depth: usize) -> io::Result<()> {
+    for (begin, alphabet, further) in ESM {
+        let mut case = Case::new(Construct::Esm, true, begin);
+        grow(sink, &mut case, alphabet, depth + further, 4)?;
+    }
+    Ok(())
+}
+
+/// Write a case, and all longer ones.
+fn grow<W: Write>(
+    sink: &mut Sink<W>,
+    case: &mut Case,
+    alphabet: &[&str],
+    depth: usize,
+    most: usize,
+) -> io::Result<()> {
+    case.kind = kind_for(&case.page);
+    let open = sink.put_all(case, most)? || case.construct == Construct::Esm;
+    if open && depth > 0 {
+        let len = case.page.len();
+        for letter in alphabet {
+            case.page.extend_from_slice(letter.as_bytes());
+            grow(sink, case, alphabet, depth - 1, most)?;
+            case.page.truncate(len);
+        }
+    }
+    Ok(())
+}

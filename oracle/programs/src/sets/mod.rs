@@ -1,0 +1,158 @@
+//! Sets of cases.
+//!
+//! Every case is run through the judge before it is written. So cases outside
+//! document 01's domain are left out, verdicts are only given where the run
+//! asks for them, and an error points at a byte that the body has.
+
+pub mod boundaries;
+pub mod exhaustive;
+pub mod random;
+pub mod starts;
+pub mod states;
+
+use crate::case::Case;
+use crate::chance::Chance;
+use judge::{Answer, Judge, Kind, Outcome, Verdict};
+use std::io::{self, Write};
+use std::panic::{catch_unwind, AssertUnwindSafe};
+
+/// Longest page that the product's program `cases` reads.
+pub const LONGEST_PAGE: usize = 60_000;
+
+/// Where cases go.
+pub struct Sink<W> {
+    output: W,
+    judge: Judge,
+    pub chance: Chance,
+    /// Whether to ask, for each case, for a run in pieces of chance length.
+    pub allowances: bool,
+    /// How many cases were written.
+    pub written: u64,
+    /// How many cases were left out, being outside the domain.
+    pub outside: u64,
+}
+
+impl<W: Write> Sink<W> {
+    pub fn new(output: W, seed: u64) -> Sink<W> {
+        Sink {
+            output,
+            judge: Judge::new(),
+            chance: Chance::new(seed),
+            allowances: false,
+            written: 0,
+            outside: 0,
+        }
+    }
+
+    /// Run a case. `None` where the crate panics: then the case should be
+    /// written and looked into, so it isn't an error here.
+    fn run(&self, case: &Case) -> Option<Outcome> {
+        catch_unwind(AssertUnwindSafe(|| case.judge(&self.judge))).ok()
+    }
+
+    /// Write a case that has run.
+    fn write(&mut self, case: &Case, outcome: Option<&Outcome>) -> io::Result<()> {
+        if outcome.is_some_and(|d| matches!(d.answer, Answer::Outside { .. })) {
+            self.outside += 1;
+            return Ok(());
+        }
+        self.written += 1;
+        let mut line = case.line();
+        if self.allowances {
+            line.push_str(&format!(" allowance={}", 1 + self.chance.below(40)));
+        }
+        line.push('\n');
+        self.output.write_all(line.as_bytes())
+    }
+
+    /// Write a case as it is.
+    pub fn put(&mut self, case: &Case) -> io::Result<Option<Outcome>> {
+        let outcome = self.run(case);
+        self.write(case, outcome.as_ref())?;
+        Ok(outcome)
+    }
+
+    /// Write a case with every list of at most `most` verdicts that its run
+    /// can use (of numbers and offsets, a few).
+    ///
+    /// Tells whether some run came to the end of the page, so that a longer
+    /// page could make a difference.
+    pub fn put_all(&mut self, case: &mut Case, most: usize) -> io::Result<bool> {
+        let outcome = self.put(case)?;
+        match outcome.map(|d| d.answer) {
+            Some(Answer::Asking { body, .. }) => {
+                let mut open = false;
+                if case.verdicts.len() < most {
+                    for verdict in verdicts(case.verdicts.len(), body.len()) {
+                        case.verdicts.push(verdict);
+                        open |= self.put_all(case, most)?;
+                        case.verdicts.pop();
+                    }
+                }
+                Ok(open)
+            }
+            Some(Answer::Eof { .. } | Answer::VerdictEof { .. }) => Ok(true),
+            Some(Answer::Nok) => {
+                // At the end of the page, or before? Byte 1 tells: no state
+                // takes it for white space.
+                case.page.push(1);
+                let longer = self.run(case);
+                case.page.pop();
+                Ok(longer.is_some_and(|d| d.answer != Answer::Nok))
+            }
+            _ => Ok(false),
+        }
+    }
+
+    /// Write a case with verdicts drawn by chance, as its run asks for them.
+    pub fn put_drawn(&mut self, case: &mut Case, most: usize) -> io::Result<()> {
+        loop {
+            let outcome = self.run(case);
+            match outcome.as_ref().map(|d| &d.answer) {
+                Some(Answer::Asking { body, .. }) if case.verdicts.len() < most => {
+                    let number = 1 + self.chance.below(65_535) as u32;
+                    let verdict = match self.chance.below(10) {
+                        0 if !body.is_empty() => Verdict::Error {
+                            number,
+                            offset: self.chance.below(body.len()),
+                        },
+                        1..=5 => Verdict::Ok,
+                        _ => Verdict::Unfinished { number },
+                    };
+                    case.verdicts.push(verdict);
+                }
+                _ => return self.write(case, outcome.as_ref()),
+            }
+        }
+    }
+
+    pub fn finish(mut self) -> io::Result<()> {
+        self.output.flush()
+    }
+}
+
+/// Verdicts to try on a body, after `before` others.
+fn verdicts(before: usize, body_len: usize) -> Vec<Verdict> {
+    let number = before as u32 + 1;
+    let mut verdicts = vec![Verdict::Ok, Verdict::Unfinished { number }];
+    let mut offsets = vec![];
+    if body_len > 0 {
+        offsets = vec![0, body_len / 2, body_len - 1];
+        offsets.dedup();
+    }
+    verdicts.extend(offsets.into_iter().map(|offset| Verdict::Error {
+        number: 100 + number,
+        offset,
+    }));
+    verdicts
+}
+
+/// A kind for a page: it only names events, so one for each page will do.
+fn kind_for(page: &[u8]) -> Kind {
+    let sum: usize = page.iter().map(|d| usize::from(*d)).sum();
+    if (sum + page.len()).is_multiple_of(2) {
+        Kind::Flow
+    } else {
+        Kind::Text
+    }
+}
