@@ -2,7 +2,6 @@
 use base::byte;
 use base::byte_at;
 ghost use mathlib.Core.Path.{_≡_};
-ghost use Prim.Native.Nat.{_≤_};
 ghost use Rattle.body.specs.Body as body;
 
 // How many bytes of a line prefix may come after this byte.

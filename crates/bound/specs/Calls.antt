@@ -1,9 +1,9 @@
 -- Every state that a call gives is in range: docs/NUMBERS.md lists the ranges, and `scanInRange` is their test. A refused call gives back
 -- the state that it was handed.
-use Prim.Native.Nat.{ℕ, zero, suc, _+_, _-_, _*_, _≤_, _<_}
+use Prim.Native.Nat.{ℕ, zero, suc, _+_, _-_, _≤_}
 use native.Mathlib.Omega.{arith}
-use mathlib.Core.Path.{_≡_, refl, sym, ap, _∙_}
-use mathlib.Core.Bool.{Bool, true, false, _&&_}
+use mathlib.Core.Path.{_≡_, refl}
+use mathlib.Core.Bool.{true, false}
 use mathlib.Core.List.{List}
 use lib.ListN.{length, replicate, length-replicate}
 use lib.Dec.{leb, ltb, eqb}
@@ -18,8 +18,6 @@ use Rattle.base.specs.declared.Move.{Move}
 use Rattle.base.specs.declared.Verdict.{Verdict}
 use Rattle.words.specs.Words.{roomIn}
 use Rattle.machine.specs.declared.Job.{Job}
-use Rattle.machine.specs.declared.Tokenizer.{Tokenizer}
-use Rattle.machine.specs.Machine.{decision}
 use Rattle.machine.specs.Moved.{oneMore, moved}
 use Rattle.machine.specs.Ranges.{esm, jobInRange, runsIn, listed, verdictInRange, inRange}
 use Rattle.page.specs.Page.{pageCheck, Admitted}
@@ -28,11 +26,10 @@ use Rattle.page.specs.declared.Checked.the-variants as checked
 use Rattle.page.proofs.Answers.{admits-is}
 use Rattle.scan.specs.declared.Scan.{Scan}
 use Rattle.scan.specs.declared.Answer.{Answer}
-use Rattle.scan.specs.declared.Began.{Began}
 use Rattle.scan.specs.declared.Began.the-variants.{Started, Refused}
-use Rattle.scan.specs.Scan.{stepBound, choice, lacks, done, stepScan, runScan}
+use Rattle.scan.specs.Scan.{stepBound, choice, lacks, stepScan, runScan}
 use Rattle.scan.specs.Call.{scanInRange, runnable, runOf, givable, givenScan, giveOf, jobOf, freshScan, numbersListed, beganBy, beginOf}
-use Rattle.bound.specs.Parts.{Parts, parts, whole}
+use Rattle.bound.specs.Parts.{parts, whole}
 use Rattle.bound.specs.Closed.{moved-in-range}
 use Rattle.bound.specs.Scans.{within-fresh, within-range}
 

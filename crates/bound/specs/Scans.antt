@@ -1,15 +1,14 @@
 -- The two promises on the steps and the states of every scan, over the definitions that the calls of `scan` cite:
 -- every step is counted, a scan of n bytes makes at most 8(n+1) of them, and every state that a call gives is in range.
-use Prim.Native.Nat.{ℕ, zero, suc, _+_, _-_, _*_, _≤_, _<_}
+use Prim.Native.Nat.{ℕ, zero, suc, _+_, _-_, _*_, _≤_}
 use native.Mathlib.Omega.{arith}
 use mathlib.Core.Path.{_≡_, refl, sym, ap, _∙_}
-use mathlib.Core.Bool.{Bool, true, false, _&&_}
+use mathlib.Core.Bool.{true, false}
 use mathlib.Core.List.{List, [], _∷_}
 use lib.ListN.{length}
-use lib.Dec.{leb, ltb, eqb}
-use borrow.Author.Tests.{leb-true, le-leb, ltb-true, ltb-false, lt-ltb, eqb-true}
-use Rattle.base.specs.If.{if_then_else_, if-is, if-yes, if-no, case, both, and-yes}
-use Rattle.base.specs.Page.{byteAt}
+use lib.Dec.{eqb}
+use borrow.Author.Tests.{le-leb, ltb-false, lt-ltb, eqb-true}
+use Rattle.base.specs.If.{if_then_else_, if-is, if-yes, case, and-yes}
 use Rattle.base.specs.State.{full, asking, rests}
 use Rattle.base.specs.Decide.{retry, countOf}
 use Rattle.base.specs.declared.Marks.the-variants.{Nothing}
@@ -18,11 +17,10 @@ use Rattle.base.specs.declared.Verdict.{Verdict}
 use Rattle.words.specs.Words.{roomIn}
 use Rattle.machine.specs.declared.Job.{Job}
 use Rattle.machine.specs.declared.Tokenizer.{Tokenizer}
-use Rattle.machine.specs.Machine.{decision}
-use Rattle.machine.specs.Moved.{oneMore, moved}
-use Rattle.machine.specs.Ranges.{jobInRange, verdictInRange, inRange}
+use Rattle.machine.specs.Moved.{moved}
+use Rattle.machine.specs.Ranges.{jobInRange, verdictInRange}
 use Rattle.scan.specs.declared.Scan.{Scan}
-use Rattle.scan.specs.Scan.{stepBound, counted, choice, lacks, done, movedScan, stepScan, runScan}
+use Rattle.scan.specs.Scan.{stepBound, choice, lacks, done, stepScan, runScan}
 use Rattle.scan.specs.Call.{scanInRange, givenScan, freshScan}
 use Rattle.scan.specs.Alone.{toldScan, runAlone}
 use Rattle.bound.specs.Left.{left, left-ended}

@@ -1,8 +1,7 @@
 -- Pausing changes nothing: however a run is cut into allowances, it ends in the same scan with the same words.
 use Prim.Native.Nat.{ℕ, zero, suc, _+_}
 use native.Mathlib.Nat.{zero-add, suc-add}
-use mathlib.Core.Path.{_≡_, refl, sym, ap, _∙_}
-use mathlib.Core.Bool.{true, false}
+use mathlib.Core.Path.{_≡_, refl, sym, _∙_}
 use mathlib.Core.List.{List, [], _∷_}
 use Rattle.base.specs.If.{if_then_else_, case}
 use Rattle.base.specs.State.{rests}

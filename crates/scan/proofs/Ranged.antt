@@ -1,17 +1,17 @@
 -- What the tests of a call tell of a scan.
-use Prim.Native.Nat.{ℕ, _+_, _≤_, _<_}
+use Prim.Native.Nat.{ℕ, _≤_}
 use native.Mathlib.Omega.{arith}
 use mathlib.Core.Path.{_≡_, sym}
-use mathlib.Core.Bool.{true, _&&_}
+use mathlib.Core.Bool.{true}
 use lib.Dec.{leb, ltb, eqb}
 use borrow.Author.Tests.{leb-true, eqb-true}
 use Rattle.base.specs.If.{both}
 use Rattle.words.specs.Words.{roomIn}
 use Rattle.machine.specs.declared.Tokenizer.{Tokenizer}
 use Rattle.base.specs.Page.{pageLimit}
-use Rattle.machine.specs.Ranges.{jobInRange, listed, placesInRange, numbersInRange, isReturn, regsInRange, verdictInRange, inRange}
+use Rattle.machine.specs.Ranges.{jobInRange, listed, placesInRange, numbersInRange, isReturn, regsInRange, inRange}
 use Rattle.scan.specs.declared.Scan.{Scan}
-use Rattle.scan.specs.Scan.{stepBound, Fit}
+use Rattle.scan.specs.Scan.{Fit}
 use Rattle.scan.specs.Call.{scanInRange, runnable}
 
 -- the numbers that a step counts with

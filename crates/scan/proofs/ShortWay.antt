@@ -1,20 +1,19 @@
 -- The short way is the general one: where a state glides over a byte, its decision is to eat the byte and stay.
-use Prim.Native.Nat.{ℕ, _≤_, _<_}
+use Prim.Native.Nat.{ℕ, _≤_}
 use native.Mathlib.Omega.{arith}
 use mathlib.Core.Path.{_≡_, refl, sym, ap, _∙_}
-use mathlib.Core.Bool.{Bool, true, false, not, _||_, _&&_}
-use mathlib.Core.List.{List, [], _∷_}
+use mathlib.Core.Bool.{Bool, true, false, not}
+use mathlib.Core.List.{List}
 use lib.Dec.{eqb}
 use borrow.Author.Tests.{eqb-true, eqb-false, ne-eqb}
 use Rattle.base.specs.Byte.{lineFeed, leftBrace, rightBrace, endOfPage}
 use Rattle.base.specs.If.{if_then_else_, case, among, and-no, and-no′, or-no, or-cases, or-left, or-right, not-yes}
-use Rattle.base.specs.Range.{within, within-is, inside, below, above}
+use Rattle.base.specs.Range.{within, within-is, below, above}
 use Rattle.base.specs.Table.{find}
 use Rattle.base.specs.Decide.{eat}
 use Rattle.base.specs.declared.Marks.the-variants.{Nothing}
 use Rattle.base.specs.declared.Move.{Move}
 use Rattle.char_class.specs.Class.{isWhitespace, isIdStart, isIdCont}
-use Rattle.mdx_expression.specs.Expression.{closes}
 use Rattle.mdx_jsx.specs.Jsx.{whitespaceOrEnd, tagGoesOn}
 use Rattle.mdx_jsx_attribute.specs.Attribute.{quotedEnds}
 use Rattle.mdx_esm.specs.Esm.{lineEnds}

@@ -1,9 +1,8 @@
 -- How the code's three ways of a step are the definition's one: no events, no room, events that fit. And what a step keeps.
-use Prim.Native.Nat.{ℕ, _+_, _-_, _*_, _/_, _≤_, _<_, _^_}
+use Prim.Native.Nat.{ℕ, _+_, _-_, _≤_, _<_, _^_}
 use native.Mathlib.Omega.{arith}
-use native.Mathlib.Nat.{add-zero}
-use mathlib.Core.Path.{_≡_, refl, sym, ap, _∙_}
-use mathlib.Core.Bool.{Bool, true, false, _&&_}
+use mathlib.Core.Path.{_≡_, refl, sym, _∙_}
+use mathlib.Core.Bool.{Bool, true, false}
 use mathlib.Core.List.{List, []}
 use lib.ListN.{length}
 use lib.Dec.{ltb}
@@ -18,7 +17,6 @@ use Rattle.base.specs.declared.Effect.the-variants.{Keep, Deeper, Shallower, Op
 use Rattle.base.specs.declared.Move.{Move}
 use Rattle.words.specs.Words.{roomIn, writeAll}
 use Rattle.machine.specs.declared.Regs.{Regs}
-use Rattle.machine.specs.declared.Tokenizer.{Tokenizer}
 use Rattle.machine.specs.Moved.{nextPlace, placeAfter, changed, moved}
 use Rattle.scan.specs.declared.Scan.{Scan}
 use Rattle.scan.specs.Scan.{choice, lacks, done, movedScan, stepScan, stepWords, Fit, Counts}

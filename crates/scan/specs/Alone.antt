@@ -1,7 +1,6 @@
 -- A scan run by itself, with the verdicts that it is given in order: demand 2's definition, and what demand 3 compares a worker's page
 -- with.
 use Prim.Native.Nat.{ℕ}
-use mathlib.Core.Bool.{Bool}
 use mathlib.Core.List.{List, [], _∷_}
 use lib.Dec.{eqb}
 use Rattle.base.specs.If.{if_then_else_}

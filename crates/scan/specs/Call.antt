@@ -17,7 +17,6 @@ use Rattle.page.specs.Page.{pageCheck}
 use Rattle.page.specs.declared.Checked.{Checked}
 use Rattle.page.specs.declared.Checked.the-variants as checked
 use Rattle.machine.specs.declared.Job.{Job}
-use Rattle.machine.specs.declared.Tokenizer.{Tokenizer}
 use Rattle.machine.specs.Moved.{regsOf}
 use Rattle.machine.specs.Ranges.{tag, esm, inRange, verdictInRange}
 use Rattle.scan.specs.declared.Scan.{Scan}

@@ -1,4 +1,3 @@
-use mathlib.Core.Path.{refl}
 use borrow.Author.Needs.{needs}
 use Rattle.machine.proofs.Tokenizer.esm_allowed.Statement.{statement}
 use Rattle.machine.proofs.Tokenizer.esm_allowed.Tie as tie

@@ -1,7 +1,7 @@
-use mathlib.Core.Path.{refl, sym, ap, ap₂, _∙_}
+use mathlib.Core.Path.{refl, sym, _∙_}
 use borrow.Author.Needs.{needs}
 use Rattle.base.specs.If.{if-yes, if-no}
-use Rattle.scan.specs.Call.{outcome, ran, runOf}
+use Rattle.scan.specs.Call.{runOf}
 use Rattle.scan.proofs.Ranged.{fit-of}
 use Rattle.scan.proofs.Scan.run.Statement.{statement}
 use Rattle.scan.proofs.Scan.run.Tie as tie
