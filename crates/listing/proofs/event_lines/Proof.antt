@@ -1,0 +1,89 @@
+use Prim.Native.Nat.{_-_, _≤_}
+use native.Mathlib.Omega.{arith}
+use mathlib.Core.Path.{_≡_, refl, _∙_}
+use lib.ListN.{length}
+use borrow.Author.Needs.{needs}
+use Rattle.listing.proofs.event_lines.Statement.{statement}
+use Rattle.listing.proofs.event_lines.Tie as tie
+
+abbrev Inv-loop : tie.InvT-loop
+Inv-loop words count out₀ from used₀ left₀ at₀ out used left at = (used ≤ length out) × (length out ≡ length out₀) × (at ≤ length words)
+
+abbrev μ-loop : tie.MeasureT-loop
+μ-loop words count out₀ from used₀ left₀ at₀ out used left at = length words - at
+
+loop-holds : tie.Need-loop-holds Inv-loop μ-loop
+loop-holds c = (omega arith, refl, omega arith)
+
+add-loop : tie.Need-add-loop Inv-loop μ-loop
+add-loop c = search needs
+
+same-length : tie.Need-same-length Inv-loop μ-loop
+same-length c = c .before .before .loop .inv .1
+
+returns : tie.Need-returns Inv-loop μ-loop
+returns c = search needs
+
+make-room-requires : tie.Need-make-room-requires Inv-loop μ-loop
+make-room-requires c κs = search needs
+
+mul-event-line : tie.Need-mul-event-line Inv-loop μ-loop
+mul-event-line c = search needs
+
+shared-slice-read-event-line : tie.Need-shared-slice-read-event-line Inv-loop μ-loop
+shared-slice-read-event-line c = search needs
+
+add-event-line : tie.Need-add-event-line Inv-loop μ-loop
+add-event-line c = search needs
+
+mul-event-line-2 : tie.Need-mul-event-line-2 Inv-loop μ-loop
+mul-event-line-2 c = search needs
+
+shared-slice-read-event-line-2 : tie.Need-shared-slice-read-event-line-2 Inv-loop μ-loop
+shared-slice-read-event-line-2 c = search needs
+
+event-line-requires : tie.Need-event-line-requires Inv-loop μ-loop
+event-line-requires c κs = search needs
+
+sub-left : tie.Need-sub-left Inv-loop μ-loop
+sub-left c = search needs
+
+add-at : tie.Need-add-at Inv-loop μ-loop
+add-at c = search needs
+
+loop-less : tie.Need-loop-less Inv-loop μ-loop
+loop-less c = search needs
+
+loop-again : tie.Need-loop-again Inv-loop μ-loop
+loop-again c =
+    (search needs, c .before .before .event-line .kept .0 ∙ c .before .before .before .before .before .before .before .before .before .before .loop .inv .1, search needs)
+
+same-length-2 : tie.Need-same-length-2 Inv-loop μ-loop
+same-length-2 c = c .before .loop .inv .1
+
+returns-2 : tie.Need-returns-2 Inv-loop μ-loop
+returns-2 c = search needs
+
+pub event-lines-spec : {M : Type 1} → statement M
+event-lines-spec =
+    tie.close
+    (tie.spec
+    Inv-loop
+    μ-loop
+    loop-holds
+    add-loop
+    same-length
+    returns
+    make-room-requires
+    mul-event-line
+    shared-slice-read-event-line
+    add-event-line
+    mul-event-line-2
+    shared-slice-read-event-line-2
+    event-line-requires
+    sub-left
+    add-at
+    loop-less
+    loop-again
+    same-length-2
+    returns-2)

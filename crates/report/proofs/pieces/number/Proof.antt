@@ -1,0 +1,35 @@
+use Rattle.report.proofs.Copied.{put-as}
+use borrow.Author.Needs.{needs}
+use Rattle.report.proofs.pieces.number.Statement.{statement}
+use Rattle.report.proofs.pieces.number.Tie as tie
+
+decimal-requires : tie.Need-decimal-requires
+decimal-requires c κs = search needs
+
+array-share-prefix-digits : tie.Need-array-share-prefix-digits
+array-share-prefix-digits c = search needs
+
+slice-aggregate-text : tie.Need-slice-aggregate-text
+slice-aggregate-text c = search needs
+
+text-requires : tie.Need-text-requires
+text-requires c κs = search needs
+
+same-length : tie.Need-same-length
+same-length c = search needs
+
+returns : tie.Need-returns
+returns c =
+    let d = c .before .before .before .before .before .decimal in
+    record { count = d .result; fewest = d .ensures .1 .0; puts = put-as (d .ensures .1 .1) (c .before .before .text .ensures) }
+
+pub number-spec : {M : Type 1} → statement M
+number-spec =
+    tie.close
+    (tie.spec
+    decimal-requires
+    array-share-prefix-digits
+    slice-aggregate-text
+    text-requires
+    same-length
+    returns)
