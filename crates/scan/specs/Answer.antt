@@ -61,26 +61,42 @@ valuesOf (Asking place events steps) = place ∷ events ∷ steps ∷ []
 valuesOf (Paused place events steps) = place ∷ events ∷ steps ∷ []
 valuesOf Kept = []
 
--- where a scan rests: by the number of its state
-abbrev pub restAnswers : Scan → List (ℕ × Answer)
-restAnswers s =
-    let at = s .tokenizer .at in
-    let events = s .used in
-    let steps = s .steps in
-    let regs = s .tokenizer .regs in
-    (state.done, Done at events steps)
-    ∷ (state.nok, Nok events steps)
-    ∷ (state.notAscii, NotAscii at events steps)
-    ∷ (state.eof, Eof at (regs .site) events steps)
-    ∷ (state.unexpected, Unexpected at (regs .site) (regs .note) events steps)
-    ∷ (state.verdictError, VerdictError (regs .fault) (regs .last) events steps)
-    ∷ (state.verdictEof, VerdictEof at (regs .last) events steps)
-    ∷ (state.full, Full at events steps)
-    ∷ (state.asking, Asking at events steps)
+-- where a scan rests, by the number of its state: at the construct's end, at no construct, at a question
+abbrev pub endAnswers : Scan → List (ℕ × Answer)
+endAnswers s =
+    (state.done, Done (s .tokenizer .at) (s .used) (s .steps))
+    ∷ (state.nok, Nok (s .used) (s .steps))
+    ∷ (state.asking, Asking (s .tokenizer .at) (s .used) (s .steps))
     ∷ []
+
+-- at a byte of the page, its end, or the end of the event buffer
+abbrev pub pageAnswers : Scan → List (ℕ × Answer)
+pageAnswers s =
+    let at = s .tokenizer .at in
+    let regs = s .tokenizer .regs in
+    (state.notAscii, NotAscii at (s .used) (s .steps))
+    ∷ (state.eof, Eof at (regs .site) (s .used) (s .steps))
+    ∷ (state.unexpected, Unexpected at (regs .site) (regs .note) (s .used) (s .steps))
+    ∷ (state.full, Full at (s .used) (s .steps))
+    ∷ []
+
+-- at a verdict
+abbrev pub verdictAnswers : Scan → List (ℕ × Answer)
+verdictAnswers s =
+    let regs = s .tokenizer .regs in
+    (state.verdictError, VerdictError (regs .fault) (regs .last) (s .used) (s .steps))
+    ∷ (state.verdictEof, VerdictEof (s .tokenizer .at) (regs .last) (s .used) (s .steps))
+    ∷ []
+
+-- no scan rests at another number
+unfoldable pub verdictRefusal : Scan → Answer
+verdictRefusal s = find (s .tokenizer .state) (verdictAnswers s) BadCall
+
+unfoldable pub refusal : Scan → Answer
+refusal s = find (s .tokenizer .state) (pageAnswers s) (verdictRefusal s)
 
 -- the answer of a scan as it stands: one that neither asks nor has ended is paused
 unfoldable pub answerOf : Scan → Answer
 answerOf s =
     if leb 32 (s .tokenizer .state) then Paused (s .tokenizer .at) (s .used) (s .steps)
-    else find (s .tokenizer .state) (restAnswers s) BadCall
+    else find (s .tokenizer .state) (endAnswers s) (refusal s)

@@ -18,7 +18,7 @@ use Rattle.machine.specs.Moved.{moved}
 use Rattle.machine.specs.Ranges.{expression, tag, esm}
 use Rattle.scan.specs.declared.Answer.{Answer}
 use Rattle.scan.specs.Scan.{choice, stepScan, runScan}
-use Rattle.scan.specs.Answer.{numberOf, valuesOf, answerOf}
+use Rattle.scan.specs.Answer.{numberOf, valuesOf, verdictRefusal, refusal, answerOf}
 use Rattle.scan.specs.Call.{jobOf, freshScan, givenScan}
 use Rattle.scan.specs.Alone.{runAlone}
 
@@ -138,6 +138,8 @@ unfolding
     within
     among
     answerOf
+    refusal
+    verdictRefusal
     freshScan
     givenScan
     if_then_else_

@@ -17,7 +17,7 @@ ghost use Prim.Native.Nat.{_+_, _-_, _*_, _≤_};
 ghost use Rattle.machine.specs.Moved.{oneMore};
 ghost use lib.ListN.{length};
 ghost use Rattle.scan.specs.Scan.{movedScan, stepScan, stepWords, runScan, runWords, Fit, Counts, Stepping};
-ghost use Rattle.scan.specs.Answer.{answerOf};
+ghost use Rattle.scan.specs.Answer.{verdictRefusal, refusal, answerOf};
 ghost use Rattle.scan.specs.Call.{scanInRange, runnable, givable, outcome, runOf, verdictState, firstState, numbersListed, givenScan, giveOf, freshScan, beganBy, beginOf};
 ghost use Rattle.scan.specs.Glide.{plainData, inNames, glides};
 
@@ -264,12 +264,73 @@ impl Scan {
         self.in_range()
     }
 
+    // The answer of a scan that a verdict ended.
+    fn verdict_refusal(self) -> Answer
+        ensures { λ r. ⌜ r ≡ verdictRefusal self ⌝ }
+    {
+        let tokenizer = self.tokenizer;
+        let regs = tokenizer.regs;
+        let name = tokenizer.state;
+        match name {
+            state::VERDICT_ERROR => Answer::VerdictError {
+                place: regs.fault,
+                number: regs.last,
+                events: self.used,
+                steps: self.steps,
+            },
+            state::VERDICT_EOF => Answer::VerdictEof {
+                place: tokenizer.at,
+                number: regs.last,
+                events: self.used,
+                steps: self.steps,
+            },
+            _ => Answer::BadCall,
+        }
+    }
+
+    // The answer of a scan that the page or the event buffer ended.
+    fn refusal(self) -> Answer
+        ensures { λ r. ⌜ r ≡ refusal self ⌝ }
+    {
+        let tokenizer = self.tokenizer;
+        let regs = tokenizer.regs;
+        let place = tokenizer.at;
+        let name = tokenizer.state;
+        let events = self.used;
+        let steps = self.steps;
+        match name {
+            state::NOT_ASCII => Answer::NotAscii {
+                place,
+                events,
+                steps,
+            },
+            state::EOF => Answer::Eof {
+                place,
+                site: regs.site,
+                events,
+                steps,
+            },
+            state::UNEXPECTED => Answer::Unexpected {
+                place,
+                site: regs.site,
+                note: regs.note,
+                events,
+                steps,
+            },
+            state::FULL => Answer::Full {
+                place,
+                events,
+                steps,
+            },
+            _ => self.verdict_refusal(),
+        }
+    }
+
     // The answer of the scan as it stands.
     pub fn answer(self) -> Answer
         ensures { λ r. ⌜ r ≡ answerOf self ⌝ }
     {
         let tokenizer = self.tokenizer;
-        let regs = tokenizer.regs;
         let at = tokenizer.at;
         let name = tokenizer.state;
         let events = self.used;
@@ -288,47 +349,12 @@ impl Scan {
                 steps,
             },
             state::NOK => Answer::Nok { events, steps },
-            state::NOT_ASCII => Answer::NotAscii {
-                place: at,
-                events,
-                steps,
-            },
-            state::EOF => Answer::Eof {
-                place: at,
-                site: regs.site,
-                events,
-                steps,
-            },
-            state::UNEXPECTED => Answer::Unexpected {
-                place: at,
-                site: regs.site,
-                note: regs.note,
-                events,
-                steps,
-            },
-            state::VERDICT_ERROR => Answer::VerdictError {
-                place: regs.fault,
-                number: regs.last,
-                events,
-                steps,
-            },
-            state::VERDICT_EOF => Answer::VerdictEof {
-                place: at,
-                number: regs.last,
-                events,
-                steps,
-            },
-            state::FULL => Answer::Full {
-                place: at,
-                events,
-                steps,
-            },
             state::ASKING => Answer::Asking {
                 place: at,
                 events,
                 steps,
             },
-            _ => Answer::BadCall,
+            _ => self.refusal(),
         }
     }
 

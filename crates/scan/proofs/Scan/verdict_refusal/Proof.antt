@@ -1,0 +1,15 @@
+use Rattle.base.specs.If.{if_then_else_}
+use Rattle.base.specs.Table.{find, not-found}
+use Rattle.scan.specs.Answer.{verdictAnswers, verdictRefusal}
+use Rattle.scan.proofs.Scan.verdict_refusal.Statement.{statement}
+use Rattle.scan.proofs.Scan.verdict_refusal.Tie as tie
+
+unlisted : tie.Need-returns-3
+unfolding verdictRefusal
+unlisted c =
+    let s = c .before .before .before .args .self in
+    not-found (s .tokenizer .state) (verdictAnswers s) _ (c .match .rest)
+
+pub verdict-refusal-spec : {M : Type 1} → statement M
+unfolding verdictRefusal find if_then_else_
+verdict-refusal-spec = tie.close (tie.spec (λ c. rw (c .match .keys1)) (λ c. rw (c .match .keys2)) unlisted)
