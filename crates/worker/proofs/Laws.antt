@@ -1,25 +1,57 @@
 -- Which case of the worker's definition a call is, over plain variables: what the proofs of the calls cite.
-use Prim.Native.Nat.{ℕ, _+_, _-_, _*_, _≤_, _<_}
+use Prim.Native.Nat.{ℕ, _+_, _-_, _*_, _/_, _≤_, _<_}
 use native.Mathlib.Omega.{arith}
 use native.Mathlib.Nat.{mul-le-mul-right, le-pred-of-lt}
 use mathlib.Core.Path.{_≡_, refl, sym, ap, _∙_}
-use mathlib.Core.Bool.{Bool, true, false, not}
+use mathlib.Core.Bool.{Bool, true, false, not, _&&_}
 use mathlib.Core.List.{List}
 use lib.ListN.{length, take, drop}
-use lib.Dec.{ltb, eqb}
+use lib.Dec.{ltb, leb, eqb}
 use borrow.Author.Tests.{eq-eqb, ne-eqb, le-leb, lt-leb, le-ltb, lt-ltb, ltb-true, leb-true}
-use Rattle.base.specs.If.{if-yes, if-no, and-yes, and-no, and-no′, both}
+use Rattle.base.specs.If.{if_then_else_, if-yes, if-no, and-yes, and-no, and-no′, both}
 use Rattle.base.specs.declared.Verdict.{Verdict}
-use Rattle.page.specs.Page.{inside}
+use Rattle.page.specs.Page.{inside, pageOf}
+use Rattle.scan.specs.declared.Answer.{Answer}
 use Rattle.scan.specs.declared.Began.{Began}
 use Rattle.scan.specs.declared.Ran.{Ran}
 use Rattle.scan.specs.Answer.{answerOf}
-use Rattle.scan.specs.Call.{outcome, numbersListed, giveOf, beginOf, runOf}
+use Rattle.scan.specs.Call.{Outcome, outcome, numbersListed, giveOf, beginOf, runOf}
 use Rattle.worker.specs.declared.Place.{Place}
 use Rattle.worker.specs.declared.Worker.{Worker}
 use Rattle.worker.specs.declared.Done.{Done}
-use Rattle.worker.specs.declared.Reply.the-variants.{Started, Kept, Served, Idle, Gave, NoPlace}
-use Rattle.worker.specs.Worker.{done, refused, placeOf, freePlace, finished, ready, at, nextIn, lowestIn, stored, workerInRange, freshOf, startOf, shareOf, shareIn, replaced, placedBy, admitOf, isKept, verdictAt, verdictOf, collectOf, Did, did, pageIn, made, servedAt, turnAt, turnOf}
+use Rattle.worker.specs.declared.Reply.the-variants.{Started, Placed, Kept, Served, Idle, Gave, NoPlace, Refused}
+use Rattle.worker.specs.Worker.{
+  done,
+  refused,
+  placeOf,
+  freePlace,
+  finished,
+  ready,
+  at,
+  nextIn,
+  lowestIn,
+  stored,
+  workerInRange,
+  freshOf,
+  startOf,
+  shareOf,
+  shareIn,
+  replaced,
+  placedBy,
+  admitOf,
+  isKept,
+  verdictAt,
+  verdictOf,
+  collectOf,
+  Did,
+  did,
+  pageIn,
+  runAt,
+  made,
+  servedAt,
+  turnAt,
+  turnOf,
+}
 
 -- a test that the code makes the other way round
 pub not-no : (b : Bool) → not b ≡ false → b ≡ true

@@ -1,2 +1,4 @@
 pub mod Ring
 pub mod Worker
+pub mod Statement
+pub mod Isolation

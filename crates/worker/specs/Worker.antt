@@ -16,6 +16,7 @@ use Rattle.base.specs.State as state
 use Rattle.base.specs.declared.Verdict.{Verdict}
 use Rattle.base.specs.declared.Verdict.the-variants.{Fine}
 use Rattle.page.specs.Page.{inside, pageOf}
+use Rattle.machine.specs.declared.Job.{Job}
 use Rattle.machine.specs.Moved.{regsOf}
 use Rattle.scan.specs.declared.Scan.{Scan}
 use Rattle.scan.specs.declared.Answer.{Answer}
@@ -23,7 +24,7 @@ use Rattle.scan.specs.declared.Answer.the-variants as answer
 use Rattle.scan.specs.declared.Began.{Began}
 use Rattle.scan.specs.declared.Began.the-variants as began
 use Rattle.scan.specs.Answer as single
-use Rattle.scan.specs.Call.{Outcome, scanInRange, numbersListed, giveOf, beginOf, runOf}
+use Rattle.scan.specs.Call.{Outcome, scanInRange, numbersListed, jobOf, giveOf, beginOf, runOf}
 use Rattle.worker.specs.declared.Place.{Place}
 use Rattle.worker.specs.declared.Worker.{Worker}
 use Rattle.worker.specs.declared.Reply.{Reply}
@@ -67,10 +68,13 @@ abbrev pub placeOf : Bool → ℕ → Scan → Place
 placeOf taken at s = record { taken = taken; at = at; scan = s }
 
 -- what a free place holds
+abbrev pub noJob : Job
+noJob = record { construct = 0; kind = 0; asks = false; interrupt = false; length = 0; start = 0; words = 0 }
+
 abbrev pub freeScan : Scan
 freeScan =
     record {
-      tokenizer = record { job = record { construct = 0; kind = 0; asks = false; interrupt = false; length = 0; start = 0; words = 0 }; state = state.done; at = 0; regs = regsOf 0 0 0 0 0 0 0 0 0 0 0; heard = Fine };
+      tokenizer = record { job = noJob; state = state.done; at = 0; regs = regsOf 0 0 0 0 0 0 0 0 0 0 0; heard = Fine };
       used = 0;
       steps = 0;
     }

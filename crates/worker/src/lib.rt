@@ -8,10 +8,10 @@ use scan::Answer;
 use scan::Began;
 use scan::Scan;
 ghost use mathlib.Core.Path.{_≡_};
-ghost use Prim.Native.Nat.{_+_, _*_, _/_, _<_};
+ghost use Prim.Native.Nat.{_+_, _*_, _/_, _≤_, _<_};
 ghost use lib.ListN.{length};
 ghost use Rattle.scan.specs.Call.{numbersListed};
-ghost use Rattle.worker.specs.Worker.{freePlace, running, finished, ready, isKept, shareOf, workerInRange, nextIn, lowestIn, stored, refused, startOf, placedBy, admitOf, verdictOf, collectOf, did, servedAt, turnOf, Serving};
+ghost use Rattle.worker.specs.Worker.{noJob, freePlace, running, finished, ready, isKept, shareOf, workerInRange, nextIn, lowestIn, stored, refused, startOf, placedBy, admitOf, verdictOf, collectOf, did, servedAt, turnOf, Serving};
 
 // The places of a worker.
 const PLACES: usize = 16;
@@ -65,10 +65,11 @@ pub struct Done {
 
 // ---- places
 
-fn free_place() -> Place
-    ensures { λ r. ⌜ r ≡ freePlace ⌝ }
+// The job of a free place.
+fn no_job() -> Job
+    ensures { λ r. ⌜ r ≡ noJob ⌝ }
 {
-    let job = Job {
+    Job {
         construct: 0,
         kind: 0,
         asks: false,
@@ -76,7 +77,14 @@ fn free_place() -> Place
         length: 0,
         start: 0,
         words: 0,
-    };
+    }
+}
+
+// A free place holds always the same, so that a freed one is as a fresh one.
+fn free_place() -> Place
+    ensures { λ r. ⌜ r ≡ freePlace ⌝ }
+{
+    let job = no_job();
     let regs = Regs {
         back: 0,
         depth: 0,
@@ -222,10 +230,9 @@ impl Worker {
     fn refuse(self) -> Done
         ensures { λ r. ⌜ r ≡ refused self ⌝ }
     {
-        Done {
-            worker: self,
-            reply: Reply::Refused(Answer::BadCall),
-        }
+        let worker = self;
+        let reply = Reply::Refused(Answer::BadCall);
+        Done { worker, reply }
     }
 
     // The next running place after the one last served, round the ring; 16 where none runs.

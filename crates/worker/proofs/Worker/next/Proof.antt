@@ -2,8 +2,9 @@ use Rattle.worker.specs.Worker.{nextIn, running, at}
 use Rattle.worker.specs.Ring.{seek, seek-here, seek-on, seek-none}
 use borrow.Author.Needs.{needs}
 use native.Mathlib.Omega.{arith}
-use Prim.Native.Nat.{_-_, _≤_, _<_}
+use Prim.Native.Nat.{ℕ, _-_, _≤_, _<_}
 use mathlib.Core.Path.{_≡_, refl, sym, ap, _∙_}
+use lib.Dec.{eqb}
 use Rattle.worker.proofs.Worker.next.Statement.{statement}
 use Rattle.worker.proofs.Worker.next.Tie as tie
 use Rattle.worker.proofs.Worker.next.Reads as reads

@@ -1,0 +1,90 @@
+-- At most the whole buffer is filled, and two words are passed in each turn.
+use Prim.Native.Nat.{_-_, _≤_}
+use native.Mathlib.Omega.{arith}
+use mathlib.Core.Path.{_≡_, refl, _∙_}
+use lib.ListN.{length}
+use borrow.Author.Needs.{needs}
+use Rattle.cases.proofs.writing.put_events.Statement.{statement}
+use Rattle.cases.proofs.writing.put_events.Tie as tie
+
+abbrev Inv-loop : tie.InvT-loop
+Inv-loop out₀ from words count used₀ left₀ at₀ out used left at = (used ≤ length out) × (length out ≡ length out₀) × (at ≤ length words)
+
+abbrev μ-loop : tie.MeasureT-loop
+μ-loop out₀ from words count used₀ left₀ at₀ out used left at = length words - at
+
+loop-holds : tie.Need-loop-holds Inv-loop μ-loop
+loop-holds c = (omega arith, refl, omega arith)
+
+add-loop : tie.Need-add-loop Inv-loop μ-loop
+add-loop c = search needs
+
+same-length : tie.Need-same-length Inv-loop μ-loop
+same-length c = c .before .before .loop .inv .1
+
+returns : tie.Need-returns Inv-loop μ-loop
+returns c = search needs
+
+make-room-requires : tie.Need-make-room-requires Inv-loop μ-loop
+make-room-requires c κs = search needs
+
+mul-event-mark : tie.Need-mul-event-mark Inv-loop μ-loop
+mul-event-mark c = search needs
+
+shared-slice-read-event-mark : tie.Need-shared-slice-read-event-mark Inv-loop μ-loop
+shared-slice-read-event-mark c = search needs
+
+add-event-mark : tie.Need-add-event-mark Inv-loop μ-loop
+add-event-mark c = search needs
+
+mul-event-mark-2 : tie.Need-mul-event-mark-2 Inv-loop μ-loop
+mul-event-mark-2 c = search needs
+
+shared-slice-read-event-mark-2 : tie.Need-shared-slice-read-event-mark-2 Inv-loop μ-loop
+shared-slice-read-event-mark-2 c = search needs
+
+event-mark-requires : tie.Need-event-mark-requires Inv-loop μ-loop
+event-mark-requires c κs = search needs
+
+sub-left : tie.Need-sub-left Inv-loop μ-loop
+sub-left c = search needs
+
+add-at : tie.Need-add-at Inv-loop μ-loop
+add-at c = search needs
+
+loop-less : tie.Need-loop-less Inv-loop μ-loop
+loop-less c = search needs
+
+loop-again : tie.Need-loop-again Inv-loop μ-loop
+loop-again c =
+    (search needs, c .before .before .event-mark .kept .0 ∙ c .before .before .before .before .before .before .before .before .before .before .loop .inv .1, search needs)
+
+same-length-2 : tie.Need-same-length-2 Inv-loop μ-loop
+same-length-2 c = c .before .loop .inv .1
+
+returns-2 : tie.Need-returns-2 Inv-loop μ-loop
+returns-2 c = search needs
+
+pub put-events-spec : {M : Type 1} → statement M
+put-events-spec =
+    tie.close
+    (tie.spec
+    Inv-loop
+    μ-loop
+    loop-holds
+    add-loop
+    same-length
+    returns
+    make-room-requires
+    mul-event-mark
+    shared-slice-read-event-mark
+    add-event-mark
+    mul-event-mark-2
+    shared-slice-read-event-mark-2
+    event-mark-requires
+    sub-left
+    add-at
+    loop-less
+    loop-again
+    same-length-2
+    returns-2)

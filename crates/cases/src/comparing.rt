@@ -1,0 +1,81 @@
+// An answer that is recorded on a line, against the program's own.
+//
+// A place of 0 says that something differed before it; no recorded answer begins there.
+use crate::running::Outcome;
+use crate::writing::answer_text;
+use crate::writing::event_mark;
+ghost use Prim.Native.Nat.{_≤_};
+ghost use lib.ListN.{length};
+
+// The number of the answer Nok.
+const NOK: u8 = 1;
+
+// Whether the parts that are recorded from a place on are those of the outcome. At Nok an empty list of events says nothing,
+// since the crate takes its events back there.
+pub fn agrees(
+    line: &[u8],
+    from: usize,
+    outcome: Outcome,
+    page: &[u8],
+    words: &[u32],
+    piece: &mut [u8],
+) -> bool {
+    let told = outcome.told;
+    let count = answer_text(piece, outcome, page);
+    let at = eat(line, from, &piece[0..count]);
+    let at = eat_steps(line, at, told.steps, piece);
+    let at = eat(line, at, b" | events");
+    if at == 0 {
+        return false;
+    }
+    if told.number == NOK {
+        if at == line.len() {
+            return true;
+        }
+    }
+    eat_events(line, at, words, told.events, piece) == line.len()
+}
+
+// The place past the word, if the word stands at this place.
+fn eat(line: &[u8], from: usize, word: &[u8]) -> usize {
+    if from == 0 {
+        return 0;
+    }
+    if line.len() < from {
+        return 0;
+    }
+    if line.len() - from < word.len() {
+        return 0;
+    }
+    let to = from + word.len();
+    if text::is_word(line, from, to, word) {
+        return to;
+    }
+    0
+}
+
+// The steps need not be recorded.
+fn eat_steps(line: &[u8], from: usize, steps: usize, piece: &mut [u8]) -> usize {
+    let at = eat(line, from, b" | steps ");
+    if at == 0 {
+        return from;
+    }
+    let count = report::number(piece, 0, steps as u64);
+    eat(line, at, &piece[0..count])
+}
+
+fn eat_events(line: &[u8], from: usize, words: &[u32], count: usize, piece: &mut [u8]) -> usize {
+    let mut place = from;
+    let mut left = count;
+    let mut at = 0;
+    while at + 1 < words.len() {
+        if left == 0 {
+            return place;
+        }
+        let end = event_mark(piece, 0, words[at], words[at + 1]);
+        place = eat(line, place, &piece[0..end]);
+        left = left - 1;
+        at += 2;
+    }
+    place
+}
