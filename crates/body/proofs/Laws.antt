@@ -22,21 +22,21 @@ later x d (suc r) l h = rw sub-one
 -- ---- an expression's body
 
 module _ (page : List ℕ) (left at : ℕ) where
-  skips : (n : ℕ) → 0 < n → inPrefix (byteAt page at) left ≡ true → placesFrom page left at n ≡ placesFrom page (left - 1) (at + 1) (n - 1)
+  pub skips : (n : ℕ) → 0 < n → inPrefix (byteAt page at) left ≡ true → placesFrom page left at n ≡ placesFrom page (left - 1) (at + 1) (n - 1)
   unfolding placesFrom if_then_else_
   skips zero h e = absurd (omega arith)
   skips (suc n) h e = rw (e, sub-one (suc n))
 
-  keeps : (n : ℕ) → 0 < n → inPrefix (byteAt page at) left ≡ false → placesFrom page left at n ≡ at ∷ placesFrom page (prefixAfter (byteAt page at)) (at + 1) (n - 1)
+  pub keeps : (n : ℕ) → 0 < n → inPrefix (byteAt page at) left ≡ false → placesFrom page left at n ≡ at ∷ placesFrom page (prefixAfter (byteAt page at)) (at + 1) (n - 1)
   unfolding placesFrom if_then_else_
   keeps zero h e = absurd (omega arith)
   keeps (suc n) h e = rw (e, sub-one (suc n))
 
-  over : (n : ℕ) → n ≡ 0 → placesFrom page left at n ≡ []
+  pub over : (n : ℕ) → n ≡ 0 → placesFrom page left at n ≡ []
   unfolding placesFrom
   over n e = rw e
 
-one-less : (to at : ℕ) → to - at - 1 ≡ to - (at + 1)
+pub one-less : (to at : ℕ) → to - at - 1 ≡ to - (at + 1)
 one-less to at = omega arith
 
 -- how the byte that is looked for is looked for: byte `more` of what is left of the body between `at` and `to`

@@ -5,14 +5,14 @@ ghost use mathlib.Core.Path.{_≡_};
 ghost use Rattle.body.specs.Body as body;
 
 // How many bytes of a line prefix may come after this byte.
-fn prefix_after(b: u16) -> u8
+pub fn prefix_after(b: u16) -> u8
     ensures { λ r. ⌜ r ≡ body.prefixAfter b ⌝ }
 {
     if b == byte::LINE_FEED { 2 } else { 0 }
 }
 
 // Whether the byte belongs to a line prefix of which `left` bytes may still come.
-fn in_prefix(b: u16, left: u8) -> bool
+pub fn in_prefix(b: u16, left: u8) -> bool
     ensures { λ r. ⌜ r ≡ body.inPrefix b left ⌝ }
 {
     if left <= 0 {

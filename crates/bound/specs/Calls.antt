@@ -118,7 +118,7 @@ give-gives-in-range s v h =
 -- ---- a new scan
 
 -- two numbers of a job were listed, the others admitted
-job-in-range : (bytes : List ℕ) (at n start construct kind flags words : ℕ) → numbersListed construct kind flags ≡ true → Admitted bytes at n start → jobInRange (jobOf construct kind flags n start words) ≡ true
+pub job-in-range : (bytes : List ℕ) (at n start construct kind flags words : ℕ) → numbersListed construct kind flags ≡ true → Admitted bytes at n start → jobInRange (jobOf construct kind flags n start words) ≡ true
 unfolding jobInRange
 job-in-range bytes at n start construct kind flags words l a =
     let c = both (leb construct 2) _ l in

@@ -10,7 +10,7 @@ use Rattle.base.specs.State as state
 use Rattle.base.specs.Decide.{retry}
 use Rattle.base.specs.declared.Marks.the-variants.{Nothing}
 use Rattle.base.specs.declared.Move.{Move}
-use Rattle.machine.specs.Machine.{tagToken, expressionToken, expressionFault, expressionStates, tagStates, esmStates, esmDecision, tagDecision, expressionDecision, decision, refusesNotAscii}
+use Rattle.machine.specs.Machine.{tagToken, expressionToken, expressionFault, expressionStates, tagStates, attributeStates, esmStates, esmDecision, attributeDecision, tagDecision, expressionDecision, decision, refusesNotAscii}
 use Rattle.machine.specs.Ranges.{isReturn}
 use Rattle.machine.specs.declared.Tokenizer.{Tokenizer}
 use Rattle.bound.specs.Parts.{ofTags}
@@ -30,15 +30,33 @@ module _ (page : List ℕ) (t : Tokenizer) (b : ℕ) where
   unfolding esmDecision
   esm-sinks h = not-there here ofTags (t .state) (esmStates page t b) (retry state.badCall Nothing) h refl (ends refl)
 
-  tag-sinks : isReturn (t .regs .back) ≡ true → here (esmDecision page t b) → here (tagDecision page t b)
+  attribute-sinks : here (esmDecision page t b) → here (attributeDecision page t b)
+  unfolding attributeDecision rank returns isReturn within find if_then_else_
+  attribute-sinks e =
+      let at = t .at in
+      let r = t .regs in
+      found here (t .state) (attributeStates t b) (esmDecision page t b)
+      ((λ k. rw k (attribute.quoted-start-sinks at r b))
+      & (λ k. rw k (attribute.quoted-sinks at r b))
+      & (λ k. rw k (attribute.before-sinks at r b))
+      & (λ k. rw k (attribute.expression-after-sinks at r b))
+      & (λ k. rw k (attribute.primary-sinks at r b))
+      & (λ k. rw k (attribute.primary-after-sinks at r b))
+      & (λ k. rw k (attribute.local-before-sinks at r b))
+      & (λ k. rw k (attribute.local-sinks at r b))
+      & (λ k. rw k (attribute.local-after-sinks at r b))
+      & (λ k. rw k (attribute.value-before-sinks at r b))
+      & (λ k. rw k (attribute.value-after-sinks at r b))
+      & tt)
+      e
+
+  tag-sinks : isReturn (t .regs .back) ≡ true → here (attributeDecision page t b) → here (tagDecision page t b)
   unfolding tagDecision rank returns isReturn within find if_then_else_
   tag-sinks h e =
       let at = t .at in
       let r = t .regs in
-      found here (t .state) (tagStates t b) (esmDecision page t b)
+      found here (t .state) (tagStates t b) (attributeDecision page t b)
       ((λ k. rw k (tag.start-sinks at r b (tagToken (t .job .kind))))
-      & (λ k. rw k (attribute.quoted-start-sinks at r b))
-      & (λ k. rw k (attribute.quoted-sinks at r b))
       & (λ k. rw k (tag.start-after-sinks at r b))
       & (λ k. rw k (name.name-before-sinks at r b))
       & (λ k. rw k (name.closing-before-sinks at r b))
@@ -51,16 +69,7 @@ module _ (page : List ℕ) (t : Tokenizer) (b : ℕ) where
       & (λ k. rw k (name.local-before-sinks at r b))
       & (λ k. rw k (name.local-sinks at r b))
       & (λ k. rw k (name.local-after-sinks at r b))
-      & (λ k. rw k (attribute.before-sinks at r b))
       & (λ k. rw k (tag.self-closing-sinks at r b))
-      & (λ k. rw k (attribute.expression-after-sinks at r b))
-      & (λ k. rw k (attribute.primary-sinks at r b))
-      & (λ k. rw k (attribute.primary-after-sinks at r b))
-      & (λ k. rw k (attribute.local-before-sinks at r b))
-      & (λ k. rw k (attribute.local-sinks at r b))
-      & (λ k. rw k (attribute.local-after-sinks at r b))
-      & (λ k. rw k (attribute.value-before-sinks at r b))
-      & (λ k. rw k (attribute.value-after-sinks at r b))
       & (λ k. rw k (tag.whitespace-start-sinks at r b h))
       & (λ k. rw k (tag.whitespace-inside-sinks at r b h))
       & (λ k. rw k (tag.whitespace-eol-sinks at r b))
@@ -90,4 +99,4 @@ module _ (page : List ℕ) (t : Tokenizer) (b : ℕ) where
   unfolding decision
   decision-sinks h l =
       if-is Move here (refusesNotAscii (t .state) b) (retry state.notAscii Nothing) (expressionDecision page t b) (λ e. ends refl)
-      (λ e. expression-sinks h (tag-sinks h (esm-sinks l)))
+      (λ e. expression-sinks h (tag-sinks h (attribute-sinks (esm-sinks l))))

@@ -17,7 +17,7 @@ use Rattle.base.specs.declared.Verdict.the-variants.{Fine, Unfinished, Wrong}
 use Rattle.mdx_expression.specs.Expression as expression
 use Rattle.mdx_jsx_attribute.specs.Attribute as attribute
 use Rattle.mdx_esm.specs.Esm as esm
-use Rattle.machine.specs.Machine.{expressionStates, tagStates, esmStates, esmDecision, tagDecision, expressionDecision, decision}
+use Rattle.machine.specs.Machine.{expressionStates, tagStates, attributeStates, esmStates, esmDecision, attributeDecision, tagDecision, expressionDecision, decision}
 use Rattle.machine.specs.Ranges.{isReturn, verdictInRange}
 use Rattle.machine.specs.declared.Tokenizer.{Tokenizer}
 use Rattle.bound.specs.Tests.{clash}
@@ -71,11 +71,29 @@ module _ (page : List ℕ) (t : Tokenizer) (b : ℕ) where
       & tt)
       (tame refl refl)
 
-  tag-tame : isReturn (t .regs .back) ≡ true → Tame false (esmDecision page t b) → Tame false (tagDecision page t b)
+  attribute-tame : Tame false (esmDecision page t b) → Tame false (attributeDecision page t b)
+  unfolding attributeDecision isReturn within
+  attribute-tame d =
+      found (Tame false) (t .state) (attributeStates t b) (esmDecision page t b)
+      ((λ k. search tames depth 12)
+      & (λ k. search tames depth 12)
+      & (λ k. search tames depth 12)
+      & (λ k. search tames depth 12)
+      & (λ k. search tames depth 12)
+      & (λ k. search tames depth 12)
+      & (λ k. search tames depth 12)
+      & (λ k. search tames depth 12)
+      & (λ k. search tames depth 12)
+      & (λ k. value-tame b)
+      & (λ k. search tames depth 12)
+      & tt)
+      d
+
+  tag-tame : isReturn (t .regs .back) ≡ true → Tame false (attributeDecision page t b) → Tame false (tagDecision page t b)
   unfolding tagDecision isReturn within
   tag-tame h d =
       let back = return-stands (t .regs .back) h in
-      found (Tame false) (t .state) (tagStates t b) (esmDecision page t b)
+      found (Tame false) (t .state) (tagStates t b) (attributeDecision page t b)
       ((λ k. search tames depth 12)
       & (λ k. search tames depth 12)
       & (λ k. search tames depth 12)
@@ -89,17 +107,6 @@ module _ (page : List ℕ) (t : Tokenizer) (b : ℕ) where
       & (λ k. search tames depth 12)
       & (λ k. search tames depth 12)
       & (λ k. search tames depth 12)
-      & (λ k. search tames depth 12)
-      & (λ k. search tames depth 12)
-      & (λ k. search tames depth 12)
-      & (λ k. search tames depth 12)
-      & (λ k. search tames depth 12)
-      & (λ k. search tames depth 12)
-      & (λ k. search tames depth 12)
-      & (λ k. search tames depth 12)
-      & (λ k. search tames depth 12)
-      & (λ k. search tames depth 12)
-      & (λ k. value-tame b)
       & (λ k. search tames depth 12)
       & (λ k. search (tames, back) depth 12)
       & (λ k. search (tames, back) depth 12)
@@ -128,12 +135,13 @@ module _ (page : List ℕ) (t : Tokenizer) (b : ℕ) where
   unfolding decision esmDecision
   low-tame h v l =
       either false _ _ _ (tame refl refl)
-      (expression-tame h v (tag-tame h (not-there (Tame false) ofTags (t .state) (esmStates page t b) (retry state.badCall Nothing) l refl (tame refl refl))))
+      (expression-tame h v (tag-tame h (attribute-tame (not-there (Tame false) ofTags (t .state) (esmStates page t b) (retry state.badCall Nothing) l refl (tame refl refl)))))
 
   -- in a state of an ESM block
   pub high-tame : verdictInRange (t .heard) ≡ true → ofEsm (t .state) ≡ true → Tame true (decision page t b)
-  unfolding decision expressionDecision tagDecision
+  unfolding decision expressionDecision tagDecision attributeDecision
   high-tame v l =
       either true _ _ _ (tame refl refl)
       (not-there (Tame true) ofEsm (t .state) (expressionStates page t b) _ l refl
-      (not-there (Tame true) ofEsm (t .state) (tagStates t b) _ l refl (esm-tame v)))
+      (not-there (Tame true) ofEsm (t .state) (tagStates t b) _ l refl
+      (not-there (Tame true) ofEsm (t .state) (attributeStates t b) _ l refl (esm-tame v))))

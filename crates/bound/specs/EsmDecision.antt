@@ -16,7 +16,7 @@ use Rattle.base.specs.Decide.{retry}
 use Rattle.base.specs.declared.Marks.the-variants.{Nothing}
 use Rattle.base.specs.declared.Move.{Move}
 use Rattle.mdx_esm.specs.Word.{isWord}
-use Rattle.machine.specs.Machine.{notAscii, takesAscii, refusesNotAscii, esmFault, esmAllowed, expressionStates, tagStates, esmStates, esmDecision, tagDecision, expressionDecision, decision}
+use Rattle.machine.specs.Machine.{notAscii, takesAscii, refusesNotAscii, esmFault, esmAllowed, expressionStates, tagStates, attributeStates, esmStates, esmDecision, attributeDecision, tagDecision, expressionDecision, decision}
 use Rattle.machine.specs.Ranges.{esm}
 use Rattle.machine.specs.declared.Tokenizer.{Tokenizer}
 use Rattle.bound.specs.Parts.{ofTags, ofEsm}
@@ -81,11 +81,12 @@ module _ (page : List ℕ) (t : Tokenizer) (c : eqb (t .job .construct) esm ≡ 
 
   -- what a tokenizer in range decides, in a state of an ESM block
   pub decision-falls : t .at ≤ length page → t .regs .saved ≤ length page → Ahead page (t .state) (t .at) (t .regs .saved) → ofEsm (t .state) ≡ true → here (decision page t (byteAt page (t .at)))
-  unfolding decision expressionDecision tagDecision
+  unfolding decision expressionDecision tagDecision attributeDecision
   decision-falls w s a h =
       let b = byteAt page (t .at) in
       let bad : here (retry state.badCall Nothing) = ends refl (positive page (t .state) (t .at) (t .regs .saved) w s) in
       if-is Move here (refusesNotAscii (t .state) b) (retry state.notAscii Nothing) (expressionDecision page t b) (λ e. absurd (refuses-low (t .state) b h e))
       (λ e.
       not-there here ofEsm (t .state) (expressionStates page t b) (tagDecision page t b) h refl
-      (not-there here ofEsm (t .state) (tagStates t b) (esmDecision page t b) h refl (table-falls w a bad)))
+      (not-there here ofEsm (t .state) (tagStates t b) (attributeDecision page t b) h refl
+      (not-there here ofEsm (t .state) (attributeStates t b) (esmDecision page t b) h refl (table-falls w a bad))))

@@ -52,7 +52,7 @@ begins-elsewhere : (construct : ℕ) → looksElsewhere (begins construct) ≡ t
 unfolding if_then_else_
 begins-elsewhere construct = case _ (eqb construct esm) (λ c. rw c) (λ c. case _ (eqb construct tag) (λ d. rw (c, d)) (λ d. rw (c, d)))
 
-start-within : (j : Job) → jobInRange j ≡ true → j .start ≤ j .length
+pub start-within : (j : Job) → jobInRange j ≡ true → j .start ≤ j .length
 unfolding jobInRange
 start-within j h =
     let a = both (leb (j .construct) 2) _ h in

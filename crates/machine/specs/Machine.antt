@@ -84,14 +84,12 @@ expressionStates page s b =
     ∷ (state.mdxExpressionVerdict, expression.verdict (s .heard) (expressionFault page (s .heard) (s .regs .body) (s .at)) token back)
     ∷ []
 
--- the states of a tag
+-- the states of a tag: its ends, its name and its white space
 abbrev pub tagStates : Tokenizer → ℕ → List (ℕ × Move)
 tagStates s b =
     let tag = tagToken (s .job .kind) in
     let back = s .regs .back in
     (state.mdxJsxStart, jsx.start b tag)
-    ∷ (state.mdxJsxAttributeValueQuotedStart, attribute.attributeValueQuotedStart b (s .regs .quote))
-    ∷ (state.mdxJsxAttributeValueQuoted, attribute.attributeValueQuoted b (s .regs .quote))
     ∷ (state.mdxJsxStartAfter, jsx.startAfter b)
     ∷ (state.mdxJsxNameBefore, name.nameBefore b)
     ∷ (state.mdxJsxClosingTagNameBefore, name.closingTagNameBefore b)
@@ -104,8 +102,20 @@ tagStates s b =
     ∷ (state.mdxJsxLocalNameBefore, name.localNameBefore b)
     ∷ (state.mdxJsxLocalName, name.localName b)
     ∷ (state.mdxJsxLocalNameAfter, name.localNameAfter b)
-    ∷ (state.mdxJsxAttributeBefore, attribute.attributeBefore b)
     ∷ (state.mdxJsxSelfClosing, jsx.selfClosing b)
+    ∷ (state.mdxJsxEsWhitespaceStart, jsx.esWhitespaceStart b back)
+    ∷ (state.mdxJsxEsWhitespaceInside, jsx.esWhitespaceInside b back)
+    ∷ (state.mdxJsxEsWhitespaceEolAfter, jsx.esWhitespaceEolAfter)
+    ∷ (state.mdxJsxEsWhitespaceStartRetried, jsx.esWhitespaceStartRetried b back)
+    ∷ (state.mdxJsxEsWhitespaceInsideRetried, jsx.esWhitespaceInsideRetried)
+    ∷ []
+
+-- the states of its attributes
+abbrev pub attributeStates : Tokenizer → ℕ → List (ℕ × Move)
+attributeStates s b =
+    (state.mdxJsxAttributeValueQuotedStart, attribute.attributeValueQuotedStart b (s .regs .quote))
+    ∷ (state.mdxJsxAttributeValueQuoted, attribute.attributeValueQuoted b (s .regs .quote))
+    ∷ (state.mdxJsxAttributeBefore, attribute.attributeBefore b)
     ∷ (state.mdxJsxAttributeExpressionAfter, attribute.attributeExpressionAfter)
     ∷ (state.mdxJsxAttributePrimaryName, attribute.attributePrimaryName b)
     ∷ (state.mdxJsxAttributePrimaryNameAfter, attribute.attributePrimaryNameAfter b)
@@ -114,11 +124,6 @@ tagStates s b =
     ∷ (state.mdxJsxAttributeLocalNameAfter, attribute.attributeLocalNameAfter b)
     ∷ (state.mdxJsxAttributeValueBefore, attribute.attributeValueBefore b)
     ∷ (state.mdxJsxAttributeValueExpressionAfter, attribute.attributeValueExpressionAfter)
-    ∷ (state.mdxJsxEsWhitespaceStart, jsx.esWhitespaceStart b back)
-    ∷ (state.mdxJsxEsWhitespaceInside, jsx.esWhitespaceInside b back)
-    ∷ (state.mdxJsxEsWhitespaceEolAfter, jsx.esWhitespaceEolAfter)
-    ∷ (state.mdxJsxEsWhitespaceStartRetried, jsx.esWhitespaceStartRetried b back)
-    ∷ (state.mdxJsxEsWhitespaceInsideRetried, jsx.esWhitespaceInsideRetried)
     ∷ []
 
 -- the states of an ESM block
@@ -139,8 +144,11 @@ esmStates page s b =
 unfoldable pub esmDecision : List ℕ → Tokenizer → ℕ → Move
 esmDecision page s b = find (s .state) (esmStates page s b) (retry state.badCall Nothing)
 
+unfoldable pub attributeDecision : List ℕ → Tokenizer → ℕ → Move
+attributeDecision page s b = find (s .state) (attributeStates s b) (esmDecision page s b)
+
 unfoldable pub tagDecision : List ℕ → Tokenizer → ℕ → Move
-tagDecision page s b = find (s .state) (tagStates s b) (esmDecision page s b)
+tagDecision page s b = find (s .state) (tagStates s b) (attributeDecision page s b)
 
 unfoldable pub expressionDecision : List ℕ → Tokenizer → ℕ → Move
 expressionDecision page s b = find (s .state) (expressionStates page s b) (tagDecision page s b)

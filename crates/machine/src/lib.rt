@@ -442,36 +442,20 @@ impl Tokenizer {
         }
     }
 
-    // The decision of a tag's state, or of one of an ESM block.
-    fn tag_state(self, page: &[u8], b: u16) -> Move
-        ensures { λ r. ⌜ r ≡ machine.tagDecision (now (page .entry)) self b ⌝ }
+    // The decision of a state of a tag's attributes, or of one of an ESM block.
+    fn attribute_state(self, page: &[u8], b: u16) -> Move
+        ensures { λ r. ⌜ r ≡ machine.attributeDecision (now (page .entry)) self b ⌝ }
     {
         let name = self.state;
-        let back = self.regs.back;
         let quote = self.regs.quote;
-        let token = tag_token(self.job.kind);
         match name {
-            state::MDX_JSX_START => mdx_jsx::start(b, token),
             state::MDX_JSX_ATTRIBUTE_VALUE_QUOTED_START =>
                 mdx_jsx_attribute::attribute_value_quoted_start(b, quote),
             state::MDX_JSX_ATTRIBUTE_VALUE_QUOTED => mdx_jsx_attribute::attribute_value_quoted(
                 b,
                 quote,
             ),
-            state::MDX_JSX_START_AFTER => mdx_jsx::start_after(b),
-            state::MDX_JSX_NAME_BEFORE => mdx_jsx_name::name_before(b),
-            state::MDX_JSX_CLOSING_TAG_NAME_BEFORE => mdx_jsx_name::closing_tag_name_before(b),
-            state::MDX_JSX_TAG_END => mdx_jsx::tag_end(b, token),
-            state::MDX_JSX_PRIMARY_NAME => mdx_jsx_name::primary_name(b),
-            state::MDX_JSX_PRIMARY_NAME_AFTER => mdx_jsx_name::primary_name_after(b),
-            state::MDX_JSX_MEMBER_NAME_BEFORE => mdx_jsx_name::member_name_before(b),
-            state::MDX_JSX_MEMBER_NAME => mdx_jsx_name::member_name(b),
-            state::MDX_JSX_MEMBER_NAME_AFTER => mdx_jsx_name::member_name_after(b),
-            state::MDX_JSX_LOCAL_NAME_BEFORE => mdx_jsx_name::local_name_before(b),
-            state::MDX_JSX_LOCAL_NAME => mdx_jsx_name::local_name(b),
-            state::MDX_JSX_LOCAL_NAME_AFTER => mdx_jsx_name::local_name_after(b),
             state::MDX_JSX_ATTRIBUTE_BEFORE => mdx_jsx_attribute::attribute_before(b),
-            state::MDX_JSX_SELF_CLOSING => mdx_jsx::self_closing(b),
             state::MDX_JSX_ATTRIBUTE_EXPRESSION_AFTER =>
                 mdx_jsx_attribute::attribute_expression_after(),
             state::MDX_JSX_ATTRIBUTE_PRIMARY_NAME => mdx_jsx_attribute::attribute_primary_name(b),
@@ -485,6 +469,32 @@ impl Tokenizer {
             state::MDX_JSX_ATTRIBUTE_VALUE_BEFORE => mdx_jsx_attribute::attribute_value_before(b),
             state::MDX_JSX_ATTRIBUTE_VALUE_EXPRESSION_AFTER =>
                 mdx_jsx_attribute::attribute_value_expression_after(),
+            _ => self.esm_state(page, b),
+        }
+    }
+
+    // The decision of a state of a tag's ends, name or white space, or of one of the others.
+    fn tag_state(self, page: &[u8], b: u16) -> Move
+        ensures { λ r. ⌜ r ≡ machine.tagDecision (now (page .entry)) self b ⌝ }
+    {
+        let name = self.state;
+        let back = self.regs.back;
+        let token = tag_token(self.job.kind);
+        match name {
+            state::MDX_JSX_START => mdx_jsx::start(b, token),
+            state::MDX_JSX_START_AFTER => mdx_jsx::start_after(b),
+            state::MDX_JSX_NAME_BEFORE => mdx_jsx_name::name_before(b),
+            state::MDX_JSX_CLOSING_TAG_NAME_BEFORE => mdx_jsx_name::closing_tag_name_before(b),
+            state::MDX_JSX_TAG_END => mdx_jsx::tag_end(b, token),
+            state::MDX_JSX_PRIMARY_NAME => mdx_jsx_name::primary_name(b),
+            state::MDX_JSX_PRIMARY_NAME_AFTER => mdx_jsx_name::primary_name_after(b),
+            state::MDX_JSX_MEMBER_NAME_BEFORE => mdx_jsx_name::member_name_before(b),
+            state::MDX_JSX_MEMBER_NAME => mdx_jsx_name::member_name(b),
+            state::MDX_JSX_MEMBER_NAME_AFTER => mdx_jsx_name::member_name_after(b),
+            state::MDX_JSX_LOCAL_NAME_BEFORE => mdx_jsx_name::local_name_before(b),
+            state::MDX_JSX_LOCAL_NAME => mdx_jsx_name::local_name(b),
+            state::MDX_JSX_LOCAL_NAME_AFTER => mdx_jsx_name::local_name_after(b),
+            state::MDX_JSX_SELF_CLOSING => mdx_jsx::self_closing(b),
             state::MDX_JSX_ES_WHITESPACE_START => mdx_jsx::es_whitespace_start(b, back),
             state::MDX_JSX_ES_WHITESPACE_INSIDE => mdx_jsx::es_whitespace_inside(b, back),
             state::MDX_JSX_ES_WHITESPACE_EOL_AFTER => mdx_jsx::es_whitespace_eol_after(),
@@ -493,7 +503,7 @@ impl Tokenizer {
                 back,
             ),
             state::MDX_JSX_ES_WHITESPACE_INSIDE_RETRIED => mdx_jsx::es_whitespace_inside_retried(),
-            _ => self.esm_state(page, b),
+            _ => self.attribute_state(page, b),
         }
     }
 

@@ -1,3 +1,4 @@
+pub mod Lengths
 pub mod Pausing
 pub mod Ranged
 pub mod Runs

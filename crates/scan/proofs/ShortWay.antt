@@ -18,7 +18,7 @@ use Rattle.mdx_jsx.specs.Jsx.{whitespaceOrEnd, tagGoesOn}
 use Rattle.mdx_jsx_attribute.specs.Attribute.{quotedEnds}
 use Rattle.mdx_esm.specs.Esm.{lineEnds}
 use Rattle.machine.specs.declared.Tokenizer.{Tokenizer}
-use Rattle.machine.specs.Machine.{notAscii, takesAscii, refusesNotAscii, esmDecision, tagDecision, expressionDecision, decision}
+use Rattle.machine.specs.Machine.{notAscii, takesAscii, refusesNotAscii, esmDecision, attributeDecision, tagDecision, expressionDecision, decision}
 use Rattle.scan.specs.Glide.{plainData, inNames, glides}
 
 -- the byte is eaten, and the state stays
@@ -61,23 +61,23 @@ module _ (b : ℕ) (e : isIdCont b ≡ true) where
 
   module _ (page : List ℕ) (t : Tokenizer) where
     primary : t .state ≡ 58 → decision page t b ≡ eat 58 Nothing
-    unfolding decision expressionDecision tagDecision find if_then_else_ isIdCont isIdStart within among
+    unfolding decision expressionDecision tagDecision attributeDecision find if_then_else_ isIdCont isIdStart within among
     primary h = rw h (simp (ascii 58, no-white, no-end, other 46 refl, other 58 refl, e))
 
     member : t .state ≡ 59 → decision page t b ≡ eat 59 Nothing
-    unfolding decision expressionDecision tagDecision find if_then_else_ isIdCont isIdStart within among
+    unfolding decision expressionDecision tagDecision attributeDecision find if_then_else_ isIdCont isIdStart within among
     member h = rw h (simp (ascii 59, no-white, no-end, other 46 refl, e))
 
     local : t .state ≡ 60 → decision page t b ≡ eat 60 Nothing
-    unfolding decision expressionDecision tagDecision find if_then_else_ isIdCont isIdStart within among
+    unfolding decision expressionDecision tagDecision attributeDecision find if_then_else_ isIdCont isIdStart within among
     local h = rw h (simp (ascii 60, no-white, no-end, e))
 
     attribute-primary : t .state ≡ 61 → decision page t b ≡ eat 61 Nothing
-    unfolding decision expressionDecision tagDecision find if_then_else_ isIdCont isIdStart within among
+    unfolding decision expressionDecision tagDecision attributeDecision find if_then_else_ isIdCont isIdStart within among
     attribute-primary h = rw h (simp (ascii 61, no-white, no-end, other 58 refl, other 61 refl, e))
 
     attribute-local : t .state ≡ 62 → decision page t b ≡ eat 62 Nothing
-    unfolding decision expressionDecision tagDecision find if_then_else_ isIdCont isIdStart within among
+    unfolding decision expressionDecision tagDecision attributeDecision find if_then_else_ isIdCont isIdStart within among
     attribute-local h = rw h (simp (ascii 62, no-white, no-end, other 61 refl, e))
 
     names : inNames (t .state) ≡ true → decision page t b ≡ eat (t .state) Nothing
@@ -105,11 +105,11 @@ module _ (page : List ℕ) (t : Tokenizer) (b : ℕ) where
       rw h (simp (and-no′ (notAscii b) (takesAscii 34) refl, or-left (eqb b endOfPage) _ k, or-left (eqb b lineFeed) _ n, or-left (eqb b leftBrace) _ f, or-left (eqb b rightBrace) _ g))
 
   quoted : t .state ≡ 39 → not (quotedEnds b (t .regs .quote)) ≡ true → decision page t b ≡ eat 39 Nothing
-  unfolding decision expressionDecision tagDecision find if_then_else_ within
+  unfolding decision expressionDecision tagDecision attributeDecision find if_then_else_ within
   quoted h e = rw h (simp (and-no′ (notAscii b) (takesAscii 39) refl, not-yes (quotedEnds b (t .regs .quote)) e))
 
   lines : t .state ≡ 70 → not (lineEnds b) ≡ true → decision page t b ≡ eat 70 Nothing
-  unfolding decision expressionDecision tagDecision esmDecision find if_then_else_ within
+  unfolding decision expressionDecision tagDecision attributeDecision esmDecision find if_then_else_ within
   lines h e = rw h (simp (and-no′ (notAscii b) (takesAscii 70) refl, not-yes (lineEnds b) e))
 
   -- where the state glides over the byte, it eats it and stays

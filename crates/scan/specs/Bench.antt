@@ -13,7 +13,7 @@ use Rattle.base.specs.declared.Verdict.{Verdict}
 use Rattle.base.specs.declared.Verdict.the-variants.{Fine, Unfinished}
 use Rattle.char_class.specs.Class.{isWhitespace, isSpaceOrTab, isIdStart, isIdCont}
 use Rattle.mdx_esm.specs.Word.{spells, isWord}
-use Rattle.machine.specs.Machine.{esmDecision, tagDecision, expressionDecision, decision}
+use Rattle.machine.specs.Machine.{esmDecision, attributeDecision, tagDecision, expressionDecision, decision}
 use Rattle.machine.specs.Moved.{moved}
 use Rattle.machine.specs.Ranges.{expression, tag, esm}
 use Rattle.scan.specs.declared.Answer.{Answer}
@@ -125,6 +125,7 @@ unfolding
     decision
     expressionDecision
     tagDecision
+    attributeDecision
     esmDecision
     find
     byteAt

@@ -499,7 +499,7 @@ impl Scan {
 }
 
 // The state that applies a verdict, by the construct.
-fn verdict_state(construct: u8) -> u8
+pub fn verdict_state(construct: u8) -> u8
     ensures { λ r. ⌜ r ≡ verdictState construct ⌝ }
 {
     if construct == machine::ESM {
@@ -523,7 +523,7 @@ fn first_state(construct: u8) -> u8
 }
 
 // Whether docs/NUMBERS.md lists the numbers.
-fn numbers_listed(construct: u8, kind: u8, flags: u8) -> bool
+pub fn numbers_listed(construct: u8, kind: u8, flags: u8) -> bool
     ensures { λ r. ⌜ r ≡ numbersListed construct kind flags ⌝ }
 {
     if 2 < construct {

@@ -1,17 +1,17 @@
 -- Demand 3, proved: a page that was admitted stands where Fair.antt says, and so the promise holds of it.
-use Prim.Native.Nat.{ℕ, zero, suc, _+_, _-_, _*_, _/_, _≤_, _<_}
+use Prim.Native.Nat.{ℕ, _-_, _≤_, _<_}
 use native.Mathlib.Omega.{arith}
 use native.Mathlib.Nat.{mul-zero, zero-add}
 use native.Mathlib.Decide.{ℕ-discrete}
-use mathlib.Core.Path.{_≡_, refl, sym, ap, ap₂, _∙_, subst}
+use mathlib.Core.Path.{_≡_, refl, sym, ap, _∙_, subst}
 use mathlib.Core.Logic.{_⊎_, inl, inr, by-cases}
-use mathlib.Core.Bool.{Bool, true, false, _&&_, true≢false, false≢true}
-use mathlib.Core.List.{List, [], _∷_, _++_}
+use mathlib.Core.Bool.{Bool, true, false, _&&_}
+use mathlib.Core.List.{List, []}
 use lib.ListN.{length, set, drop, length-drop}
 use lib.Seq.{getD-set-same, length-take-le}
-use lib.Dec.{ltb, leb, eqb}
+use lib.Dec.{leb}
 use borrow.Author.Tests.{le-leb, lt-ltb, leb-false}
-use Rattle.base.specs.If.{if_then_else_, both, and-yes}
+use Rattle.base.specs.If.{both, and-yes}
 use Rattle.base.specs.Page.{pageLimit}
 use Rattle.base.specs.State.{asking, rests}
 use Rattle.base.specs.declared.Verdict.{Verdict}
@@ -19,21 +19,18 @@ use Rattle.machine.specs.declared.Job.{Job}
 use Rattle.machine.specs.Ranges.{jobInRange}
 use Rattle.page.specs.Page.{Admitted}
 use Rattle.scan.specs.declared.Scan.{Scan}
-use Rattle.scan.specs.declared.Answer.{Answer}
 use Rattle.scan.specs.Scan.{stepBound}
 use Rattle.scan.specs.Answer.{answerOf}
 use Rattle.scan.specs.Call.{numbersListed, jobOf, freshScan}
-use Rattle.scan.specs.Alone.{runAlone}
 use Rattle.bound.specs.Scans.{Within, within-fresh, within-range}
 use Rattle.worker.specs.declared.Place.{Place}
-use Rattle.worker.specs.declared.Worker.{Worker}
 use Rattle.worker.specs.declared.Done.{Done}
-use Rattle.worker.specs.declared.Reply.the-variants.{Started, Placed, Kept, Gave, NoPlace, Refused}
+use Rattle.worker.specs.declared.Reply.the-variants.{Started, Placed, Gave}
 use Rattle.worker.specs.Ring.{after, gap-small}
-use Rattle.worker.specs.Worker.{done, did, workerInRange, startOf, placeOf, at, running, finished, stateOf, stored, shareOf, shareIn, freshOf}
-use Rattle.worker.specs.Statement.{State, Page, Ask, admit, collect, reply, next, afterCalls, placeAt, shareAt, verdictsTo, turnsWhile, Uncollected, wordsAlone, bound, bytesOf, firstScan, scanAlone, eventsAlone, Promise, Demand3}
+use Rattle.worker.specs.Worker.{done, workerInRange, startOf, placeOf, at, running, finished, stateOf, shareOf, shareIn, freshOf}
+use Rattle.worker.specs.Statement.{State, Page, admit, collect, reply, next, afterCalls, placeAt, shareAt, verdictsTo, turnsWhile, wordsAlone, bound, bytesOf, firstScan, scanAlone, eventsAlone, Promise, Demand3}
 use Rattle.worker.proofs.Laws.{start-yes, collect-gives}
-use Rattle.worker.proofs.Single.{Reached, reached-first, reached-rest}
+use Rattle.worker.proofs.Single.{reached-first, reached-rest}
 use Rattle.worker.proofs.Views.{Good, good-range, good-fresh, good-calls, stays-good, view-admit, new-parts, share-long}
 use Rattle.worker.proofs.Fair.{At, by-calls, soon-of}
 

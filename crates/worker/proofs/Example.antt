@@ -1,9 +1,8 @@
 -- Demand 3 says something: two pages, of which the first asks, is told and ends, computed from the definitions.
 use Prim.Native.Nat.{ℕ}
-use native.Mathlib.Omega.{arith}
 use mathlib.Core.Path.{_≡_, refl}
 use mathlib.Core.List.{List, [], _∷_}
-use lib.ListN.{length, replicate, take}
+use lib.ListN.{replicate}
 use Rattle.base.specs.If.{if_then_else_, among}
 use Rattle.base.specs.Range.{within}
 use Rattle.base.specs.Table.{find}
@@ -13,7 +12,7 @@ use Rattle.base.specs.declared.Verdict.the-variants.{Fine}
 use Rattle.char_class.specs.Class.{isWhitespace, isSpaceOrTab, isIdStart, isIdCont}
 use Rattle.page.specs.Text.{readFrom}
 use Rattle.page.specs.Utf8.{holdsAt, table, begins, sequenceIn}
-use Rattle.machine.specs.Machine.{esmDecision, tagDecision, expressionDecision, decision}
+use Rattle.machine.specs.Machine.{esmDecision, attributeDecision, tagDecision, expressionDecision, decision}
 use Rattle.machine.specs.Moved.{moved}
 use Rattle.machine.specs.Ranges.{expression, tag, jobInRange, runsIn, listed, isReturn, numbersInRange, placesInRange, regsInRange, verdictInRange, inRange}
 use Rattle.scan.specs.declared.Answer.the-variants.{Done}
@@ -23,7 +22,7 @@ use Rattle.scan.specs.Call.{scanInRange, runnable, runOf, givable, givenScan, g
 use Rattle.worker.specs.declared.Reply.the-variants.{Placed, Gave}
 use Rattle.worker.specs.Ring.{seek}
 use Rattle.worker.specs.Worker.{freshOf, stateOf, workerInRange, admitOf, verdictAt, verdictOf, collectOf, servedAt, turnAt, turnOf}
-use Rattle.worker.specs.Statement.{State, Page, Ask, admit, verdict, aTurn, collect, next, reply, afterCalls, placeAt, shareAt, turnsWhile}
+use Rattle.worker.specs.Statement.{State, Page, Ask, admit, verdict, aTurn, collect, next, reply, afterCalls, placeAt}
 
 -- {a}<a>
 abbrev bytes : List ℕ
@@ -89,6 +88,7 @@ unfolding
     decision
     expressionDecision
     tagDecision
+    attributeDecision
     esmDecision
     find
     byteAt
@@ -145,6 +145,7 @@ unfolding
     decision
     expressionDecision
     tagDecision
+    attributeDecision
     esmDecision
     find
     byteAt

@@ -1,8 +1,8 @@
 -- One page of the worker, from its admission on: where it stands, and how many turns passed. Every turn that goes to another place brings
 -- its own nearer round the ring; every turn that goes to it makes q steps of at most 8(n+1), or ends in a question or an answer.
-use Prim.Native.Nat.{ℕ, zero, suc, _+_, _-_, _*_, _/_, _≤_, _<_}
+use Prim.Native.Nat.{ℕ, suc, _+_, _-_, _*_, _/_, _≤_, _<_}
 use native.Mathlib.Omega.{arith}
-use native.Mathlib.Nat.{add-zero, add-assoc, mul-suc, mul-add, mul-one, mul-zero, lt-mul-div-succ, lt-of-mul-lt-mul-left}
+use native.Mathlib.Nat.{add-zero, add-assoc, mul-suc, mul-add, mul-one, lt-mul-div-succ, lt-of-mul-lt-mul-left}
 use native.Mathlib.Decide.{ℕ-discrete, decLe}
 use mathlib.Core.Path.{_≡_, refl, sym, ap, ap₂, _∙_, subst, subst₂}
 use mathlib.Core.Logic.{_≢_, by-cases}
@@ -10,8 +10,8 @@ use mathlib.Core.Bool.{Bool, true, false, _&&_, true≢false, false≢true}
 use mathlib.Core.List.{List, [], _∷_, _++_, append-nil, append-assoc}
 use lib.ListN.{length, set, length-append}
 use lib.Seq.{getD-set-same, getD-set-other}
-use lib.Dec.{ltb, leb, eqb}
-use borrow.Author.Tests.{eq-eqb, ne-eqb, eqb-true, eqb-false, le-leb, lt-leb, leb-true, leb-false, lt-ltb, le-ltb, ltb-true, ltb-false}
+use lib.Dec.{leb, eqb}
+use borrow.Author.Tests.{eq-eqb, ne-eqb, eqb-true, eqb-false, le-leb, lt-leb, leb-true, le-ltb, ltb-true, ltb-false}
 use Rattle.base.specs.If.{if_then_else_, if-is, case, both, and-yes}
 use Rattle.base.specs.State as state
 use Rattle.base.specs.State.{asking, rests}
@@ -27,12 +27,14 @@ use Rattle.bound.specs.Left.{left}
 use Rattle.worker.specs.declared.Place.{Place}
 use Rattle.worker.specs.declared.Worker.{Worker}
 use Rattle.worker.specs.declared.Done.{Done}
-use Rattle.worker.specs.Ring.{after, gap, seek, Found, seek-finds, gap-nearer, gap-small, after-small}
-use Rattle.worker.specs.Worker.{Did, did, placeOf, freePlace, at, running, stateOf, pageIn, nextIn, stored, shareOf, shareIn, replaced}
-use Rattle.worker.specs.Statement.{State, Page, Ask, admit, verdict, aTurn, collect, reply, next, afterCalls, placeAt, shareAt, verdictTo, turnWhile, collects, verdictsTo, turnsWhile, Uncollected, bound, bytesOf, firstScan, turnsFor}
+use Rattle.worker.specs.Ring.{after, gap, Found, seek-finds, gap-nearer, gap-small, after-small}
+use Rattle.worker.specs.Worker.{Did, placeOf, freePlace, at, running, stateOf, pageIn, nextIn, shareOf, shareIn, replaced}
+use Rattle.worker.specs.Statement.{State, Page, Ask, admit, verdict, aTurn, collect, readBody, reply, next, afterCalls, placeAt, shareAt, verdictTo, turnWhile, collects, verdictsTo, turnsWhile, Uncollected, bound, bytesOf, turnsFor}
 use Rattle.worker.proofs.Shares.{share-own, share-other}
-use Rattle.worker.proofs.Single.{Counted, counted, job-kept, Reached, reached-run, reached-given}
-use Rattle.worker.proofs.Views.{Good, Parts, parts, view-admit, view-verdict, view-collect, view-turn, run-long, share-fits, share-long, stays-good}
+use Rattle.worker.proofs.Single.{counted, job-kept, Reached, reached-run, reached-given}
+use Rattle.worker.proofs.Laws.{body-keeps}
+use Rattle.scan.proofs.Lengths.{run-long}
+use Rattle.worker.proofs.Views.{Good, view-admit, view-verdict, view-collect, view-turn, share-fits, share-long, stays-good}
 
 -- ---- small laws
 
@@ -261,6 +263,8 @@ module _ (bytes : List ℕ) (len q : ℕ) (q1 : 1 ≤ q) (q2 : q ≤ 4096) (pg :
     after-call (verdict k v) e = after-verdict k v
     after-call aTurn e = after-turn
     after-call (collect k) e = after-collect k e
+    after-call (readBody k scratch) e =
+        subst (λ (w : Worker). At (vs ++ []) (m + 0) (w .last) (at (w .places) i) (shareIn (shareOf (w .words)) i (s .words))) (sym (body-keeps bytes k (s .worker) scratch)) (kept vs m _ _ _ h)
 
   pub by-calls : (xs : List Ask) (vs : List Verdict) (m : ℕ) (s : State) → Calls s → Uncollected bytes i xs s → Here vs m s
       → Here (vs ++ verdictsTo bytes i xs s) (m + turnsWhile bytes i xs s) (afterCalls bytes xs s)

@@ -1,5 +1,5 @@
 -- Isolation, proved: both histories leave the page where the scan run by itself is.
-use Prim.Native.Nat.{ℕ, _+_, _-_, _*_, _≤_, _<_}
+use Prim.Native.Nat.{ℕ, _+_, _-_, _*_}
 use mathlib.Core.Path.{_≡_, sym, ap, _∙_}
 use mathlib.Core.List.{List}
 use lib.ListN.{length}
@@ -10,8 +10,8 @@ use Rattle.scan.specs.Alone.{runAlone}
 use Rattle.base.specs.declared.Verdict.{Verdict}
 use Rattle.worker.specs.declared.Reply.the-variants.{Gave}
 use Rattle.worker.specs.Worker.{shareOf}
-use Rattle.worker.specs.Statement.{Page, shareAt, bytesOf, bound, wordsAlone, firstScan, scanAlone, eventsAlone, Promise, turnsWhile}
-use Rattle.worker.specs.Isolation.{History, early, admitted, late, heard, Stays, Agree, Isolation}
+use Rattle.worker.specs.Statement.{shareAt, bound, wordsAlone, scanAlone, eventsAlone, Promise, turnsWhile}
+use Rattle.worker.specs.Isolation.{History, early, admitted, late, heard, Stays, Isolation}
 use Rattle.worker.proofs.Demand3.{no-page-holds-up-another}
 
 abbrev alone : History → ℕ → Scan

@@ -1,57 +1,29 @@
 -- Which case of the worker's definition a call is, over plain variables: what the proofs of the calls cite.
-use Prim.Native.Nat.{ℕ, _+_, _-_, _*_, _/_, _≤_, _<_}
+use Prim.Native.Nat.{ℕ, _+_, _-_, _*_, _≤_, _<_}
 use native.Mathlib.Omega.{arith}
 use native.Mathlib.Nat.{mul-le-mul-right, le-pred-of-lt}
 use mathlib.Core.Path.{_≡_, refl, sym, ap, _∙_}
 use mathlib.Core.Bool.{Bool, true, false, not, _&&_}
-use mathlib.Core.List.{List}
+use mathlib.Core.List.{List, []}
 use lib.ListN.{length, take, drop}
-use lib.Dec.{ltb, leb, eqb}
+use lib.Dec.{ltb, eqb}
 use borrow.Author.Tests.{eq-eqb, ne-eqb, le-leb, lt-leb, le-ltb, lt-ltb, ltb-true, leb-true}
-use Rattle.base.specs.If.{if_then_else_, if-yes, if-no, and-yes, and-no, and-no′, both}
+use Rattle.base.specs.If.{if-yes, if-no, if-is, and-yes, and-no, and-no′, and-also, both}
 use Rattle.base.specs.declared.Verdict.{Verdict}
-use Rattle.page.specs.Page.{inside, pageOf}
-use Rattle.scan.specs.declared.Answer.{Answer}
+use Rattle.page.specs.Page.{inside}
 use Rattle.scan.specs.declared.Began.{Began}
 use Rattle.scan.specs.declared.Ran.{Ran}
 use Rattle.scan.specs.Answer.{answerOf}
-use Rattle.scan.specs.Call.{Outcome, outcome, numbersListed, giveOf, beginOf, runOf}
+use Rattle.scan.specs.Call.{outcome, numbersListed, giveOf, beginOf, runOf}
+use Rattle.mdx_collect.specs.declared.Body.{Body}
+use Rattle.mdx_collect.specs.Collect.{Collected, collected, pieceOf}
+use Rattle.mdx_collect.specs.Collect as mdx_collect
 use Rattle.worker.specs.declared.Place.{Place}
 use Rattle.worker.specs.declared.Worker.{Worker}
 use Rattle.worker.specs.declared.Done.{Done}
-use Rattle.worker.specs.declared.Reply.the-variants.{Started, Placed, Kept, Served, Idle, Gave, NoPlace, Refused}
-use Rattle.worker.specs.Worker.{
-  done,
-  refused,
-  placeOf,
-  freePlace,
-  finished,
-  ready,
-  at,
-  nextIn,
-  lowestIn,
-  stored,
-  workerInRange,
-  freshOf,
-  startOf,
-  shareOf,
-  shareIn,
-  replaced,
-  placedBy,
-  admitOf,
-  isKept,
-  verdictAt,
-  verdictOf,
-  collectOf,
-  Did,
-  did,
-  pageIn,
-  runAt,
-  made,
-  servedAt,
-  turnAt,
-  turnOf,
-}
+use Rattle.worker.specs.declared.Reply.{Reply}
+use Rattle.worker.specs.declared.Reply.the-variants.{Started, Kept, Served, Idle, Gave, NoPlace}
+use Rattle.worker.specs.Worker.{done, refused, placeOf, freePlace, finished, ready, at, nextIn, lowestIn, stored, workerInRange, freshOf, startOf, shareOf, shareIn, replaced, placedBy, admitOf, isKept, verdictAt, verdictOf, collectOf, Did, did, pageIn, made, servedAt, turnAt, turnOf, holdsPage, pageAt, bodyReply, readBy, bodyOf}
 
 -- a test that the code makes the other way round
 pub not-no : (b : Bool) → not b ≡ false → b ≡ true
@@ -206,3 +178,56 @@ module _ (bytes : List ℕ) (w : Worker) (events : List ℕ) where
       ∙ ap (λ (j : ℕ). did (done (stored w k (placeOf true (p .at) (o .scan)) k) (Served k)) (replaced events (k * n) j words)) sz
       ∙ ap (made w k n events) run
       ∙ ap (λ (m : ℕ). made w k m events (runOf (pageIn p bytes) (w .q) (p .scan) (shareIn m k events))) en
+
+-- ---- the body of a place
+
+module _ (i lent : ℕ) (w : Worker) where
+  pub page-far : 16 ≤ i → false ≡ holdsPage i lent w
+  unfolding holdsPage
+  page-far h = sym (and-no _ _ (le-ltb i 16 h))
+
+  pub page-forged : workerInRange w ≡ false → false ≡ holdsPage i lent w
+  unfolding holdsPage
+  page-forged e = sym (and-no′ (ltb i 16) _ (and-no _ _ e))
+
+  pub page-there : (r : Bool) → i < 16 → workerInRange w ≡ true → r ≡ (at (w .places) i .taken && inside lent (at (w .places) i .at) (at (w .places) i .scan .tokenizer .job .length)) → r ≡ holdsPage i lent w
+  unfolding holdsPage
+  page-there r h e f = and-also _ _ _ (lt-ltb i 16 h) (and-also _ _ _ e f)
+
+  -- what the test tells
+  pub holds-place : holdsPage i lent w ≡ true → i < 16
+  unfolding holdsPage
+  holds-place e = ltb-true i 16 (both (ltb i 16) _ e .0)
+
+  pub holds-lies : holdsPage i lent w ≡ true → at (w .places) i .at + at (w .places) i .scan .tokenizer .job .length ≤ lent
+  unfolding holdsPage
+  holds-lies e =
+      leb-true (at (w .places) i .at + at (w .places) i .scan .tokenizer .job .length) lent
+      (both (at (w .places) i .taken) _ (both (workerInRange w) _ (both (ltb i 16) _ e .1) .1) .1)
+
+module _ (bytes : List ℕ) (i : ℕ) (w : Worker) where
+  pub page-held : holdsPage i (length bytes) w ≡ true → pieceOf bytes (at (w .places) i .at) (at (w .places) i .scan .tokenizer .job .length) ≡ pageAt bytes i w
+  unfolding pageAt
+  page-held e = if-yes _ _ _ _ _ e (sym (if-yes _ _ _ _ _ (le-leb (at (w .places) i .at + at (w .places) i .scan .tokenizer .job .length) (length bytes) (holds-lies i (length bytes) w e)) refl))
+
+  pub page-none : holdsPage i (length bytes) w ≡ false → pieceOf bytes 0 0 ≡ pageAt bytes i w
+  unfolding pageAt
+  page-none e = if-no _ _ _ _ _ e (if-is _ (λ (l : List ℕ). l ≡ []) _ _ _ (λ y. refl) (λ y. refl))
+
+  module _ (scratch : List ℕ) where
+    pub body-none : holdsPage i (length bytes) w ≡ false → did (refused w) scratch ≡ bodyOf bytes i w scratch
+    unfolding bodyOf
+    body-none e = if-no _ _ _ _ _ e refl
+
+    pub body-read : holdsPage i (length bytes) w ≡ true → (b : Body) (out : List ℕ) (r : Reply) (n : ℕ) → n ≡ at (w .places) i .scan .tokenizer .job .length
+        → collected b out ≡ mdx_collect.collectOf (take n (drop (at (w .places) i .at) bytes)) (at (w .places) i .scan) scratch
+        → r ≡ bodyReply b → did (done w r) out ≡ bodyOf bytes i w scratch
+    unfolding bodyOf
+    body-read e b out r n l c f =
+        if-yes _ _ _ _ _ e
+        (ap (λ (x : Reply). did (done w x) out) f ∙ ap (λ (x : Collected). readBy x w) c ∙ ap (λ (m : ℕ). readBy (mdx_collect.collectOf (take m (drop (at (w .places) i .at) bytes)) (at (w .places) i .scan) scratch) w) l)
+
+    -- it leaves the worker as it was
+    pub body-keeps : bodyOf bytes i w scratch .out .worker ≡ w
+    unfolding bodyOf
+    body-keeps = if-is _ (λ (d : Did). d .out .worker ≡ w) _ _ _ (λ e. refl) (λ e. refl)

@@ -1,27 +1,24 @@
 -- A single scan, run a part at a time: wherever it is paused, it comes to what the scan run by itself comes to.
-use Prim.Native.Nat.{ℕ, zero, suc, _+_, _-_, _*_, _≤_, _<_}
+use Prim.Native.Nat.{ℕ, zero, suc, _+_, _-_, _≤_}
 use native.Mathlib.Omega.{arith}
 use native.Mathlib.Nat.{add-comm}
 use mathlib.Core.Path.{_≡_, refl, sym, ap, ap₂, _∙_}
 use mathlib.Core.Bool.{Bool, true, false}
 use mathlib.Core.List.{List, [], _∷_, _++_}
-use lib.ListN.{length, length-set}
-use lib.Dec.{ltb, eqb}
+use lib.Dec.{eqb}
 use borrow.Author.Tests.{lt-ltb, eq-eqb}
 use Rattle.base.specs.If.{if_then_else_, if-yes, case}
 use Rattle.base.specs.State.{asking, rests}
 use Rattle.base.specs.declared.Verdict.{Verdict}
-use Rattle.words.specs.Words.{writeAll}
 use Rattle.machine.specs.Ranges.{verdictInRange}
 use Rattle.machine.specs.Moved.{moved}
-use Rattle.machine.specs.declared.Job.{Job}
 use Rattle.scan.specs.declared.Scan.{Scan}
-use Rattle.scan.specs.Scan.{stepBound, stepScan, stepWords, runScan, runWords}
+use Rattle.scan.specs.Scan.{stepBound, stepScan, runScan, runWords}
 use Rattle.scan.specs.Call.{givenScan}
 use Rattle.scan.specs.Alone.{toldScan, runAlone}
 use Rattle.scan.proofs.Pausing.{run-add, words-add}
 use Rattle.scan.proofs.Runs.{run-rest, words-rest}
-use Rattle.bound.specs.Scans.{Within, within-step, step-counted, within-run, run-ends, within-given}
+use Rattle.bound.specs.Scans.{Within, within-step, step-counted, run-ends, within-given}
 use Rattle.worker.specs.Statement.{wordsAlone}
 
 -- ---- what a run keeps and counts

@@ -1,62 +1,43 @@
 -- What a call can come to, of a worker that calls gave: whatever holds of each case holds of the call. And every state that calls give is
 -- good: the run of a turn is never refused.
-use Prim.Native.Nat.{ℕ, zero, suc, _+_, _-_, _*_, _/_, _≤_, _<_}
+use Prim.Native.Nat.{ℕ, _+_, _-_, _*_, _≤_, _<_}
 use native.Mathlib.Omega.{arith}
 use native.Mathlib.Decide.{ℕ-discrete, decLt}
 use mathlib.Core.Path.{_≡_, refl, sym, ap, ap₂, _∙_, subst}
 use mathlib.Core.Logic.{_≢_, by-cases}
-use mathlib.Core.Bool.{Bool, true, false, not, _&&_, true≢false}
-use mathlib.Core.List.{List, [], _∷_, _++_}
-use lib.ListN.{length, getD, set, take, drop, replicate, length-set, length-drop, getD-replicate}
+use mathlib.Core.Bool.{true, false, not, true≢false}
+use mathlib.Core.List.{List, [], _∷_}
+use lib.ListN.{length, set, drop, length-set, length-drop, getD-replicate}
 use lib.Seq.{getD-set-same, getD-set-other, length-take-le}
 use lib.Dec.{ltb, leb, eqb}
 use borrow.Author.Tests.{eq-eqb, le-leb, lt-ltb, ltb-true, leb-true, leb-false, eqb-true}
-use Rattle.base.specs.If.{if_then_else_, if-yes, if-no, if-is, case, and-yes, both, not-yes}
-use Rattle.base.specs.State.{asking, rests}
-use Rattle.base.specs.declared.Mark.{Mark}
+use Rattle.base.specs.If.{if_then_else_, if-is, case, and-yes, both, not-yes}
 use Rattle.base.specs.declared.Verdict.{Verdict}
-use Rattle.base.specs.Decide.{listOf}
-use Rattle.words.specs.Words.{writeOne, writeAll}
-use Rattle.page.specs.Page.{inside, pageOf, pageCheck, Admitted}
+use Rattle.page.specs.Page.{inside, pageCheck, Admitted}
 use Rattle.page.specs.declared.Checked.{Checked}
 use Rattle.page.specs.declared.Checked.the-variants as checked
 use Rattle.page.proofs.Answers.{admits-is}
-use Rattle.machine.specs.Ranges.{jobInRange}
-use Rattle.base.specs.Page.{pageLimit}
 use Rattle.scan.specs.declared.Scan.{Scan}
 use Rattle.scan.specs.declared.Answer.{Answer}
 use Rattle.scan.specs.declared.Answer.the-variants as answer
 use Rattle.scan.specs.declared.Began.{Began}
 use Rattle.scan.specs.declared.Began.the-variants as began
-use Rattle.scan.specs.declared.Ran.{Ran}
-use Rattle.scan.specs.Scan.{choice, done, stepScan, stepWords, runScan, runWords}
+use Rattle.scan.specs.Scan.{runScan, runWords}
 use Rattle.scan.specs.Answer.{answerOf}
-use Rattle.scan.specs.Call.{Outcome, outcome, ran, scanInRange, runnable, runOf, givable, givenScan, giveOf, jobOf, freshScan, numbersListed, beganBy, beginOf}
+use Rattle.scan.specs.Call.{ran, scanInRange, runnable, runOf, givable, givenScan, giveOf, jobOf, freshScan, numbersListed, beganBy, beginOf}
+use Rattle.scan.proofs.Lengths.{run-long}
 use Rattle.bound.specs.Calls.{run-gives-in-range, give-gives-in-range, new-gives-in-range}
 use Rattle.worker.specs.declared.Place.{Place}
 use Rattle.worker.specs.declared.Worker.{Worker}
 use Rattle.worker.specs.declared.Done.{Done}
 use Rattle.worker.specs.declared.Reply.the-variants.{Placed, Kept, Served, Idle, Gave, NoPlace, Refused}
-use Rattle.worker.specs.Ring.{after, seek, seek-holds}
+use Rattle.worker.specs.Ring.{after, seek-holds}
 use Rattle.worker.specs.Worker as worker
-use Rattle.worker.specs.Worker.{Did, did, refused, placeOf, freePlace, at, running, finished, ready, nextIn, lowestIn, stored, workerInRange, freshOf, shareOf, shareIn, replaced, pageIn, runAt, made, placedBy, admitOf, isKept, verdictAt, verdictOf, collectOf, servedAt, turnOf}
-use Rattle.worker.specs.Statement.{State, Page, Ask, admit, verdict, aTurn, collect, didBy, leftBy, next, afterCalls, placeAt, shareAt}
-use Rattle.worker.proofs.Laws.{not-no, part-fits, turn-idle, turn-served}
+use Rattle.worker.specs.Worker.{Did, did, refused, placeOf, freePlace, at, running, finished, ready, nextIn, lowestIn, stored, workerInRange, freshOf, shareOf, replaced, pageIn, runAt, placedBy, admitOf, isKept, verdictAt, verdictOf, collectOf, servedAt, turnOf}
+use Rattle.worker.specs.Statement.{State, Page, Ask, admit, verdict, aTurn, collect, readBody, leftBy, next, afterCalls, placeAt, shareAt}
+use Rattle.worker.proofs.Laws.{part-fits, turn-idle, turn-served, body-keeps}
 use Rattle.worker.proofs.Shares.{length-replaced}
 use Rattle.worker.proofs.Single.{job-kept}
-
--- ---- the words of a run keep their length
-
-write-long : (marks : List Mark) (words : List ℕ) (k at : ℕ) → length (writeAll words k at marks) ≡ length words
-write-long [] words k at = refl
-write-long (m ∷ marks) words k at = write-long marks (writeOne words k at m) (k + 1) at ∙ simp length-set
-
-pub run-long : (page : List ℕ) (k : ℕ) (s : Scan) (words : List ℕ) → length (runWords page k s words) ≡ length words
-unfolding runWords stepWords if_then_else_
-run-long page zero s words = refl
-run-long page (suc k) s words =
-    case _ (rests (s .tokenizer .state)) (λ e. rw e)
-    (λ e. rw e (run-long page k (stepScan page s) (stepWords page s words) ∙ write-long (listOf (done s (choice page s) .marks)) words (s .used) (s .tokenizer .at)))
 
 -- ---- the views
 
@@ -307,6 +288,7 @@ module _ (bytes : List ℕ) (len q : ℕ) (q1 : 1 ≤ q) (q2 : q ≤ 4096) where
   stays-good (collect i) s g =
       view-collect (λ (d : Done). Good (record { worker = d .worker; words = s .words })) (s .worker) i g
       (λ hi f. put-good s i freePlace (s .worker .last) (s .words) hi (g .ring) (g .room) g (λ t. absurd (true≢false (sym t))))
+  stays-good (readBody i scratch) s g = subst (λ (w : Worker). Good (record { worker = w; words = s .words })) (sym (body-keeps bytes i (s .worker) scratch)) g
 
   pub good-calls : (xs : List Ask) (s : State) → Good s → Good (afterCalls bytes xs s)
   good-calls [] s g = g

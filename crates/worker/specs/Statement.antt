@@ -19,8 +19,8 @@ use Rattle.scan.specs.Alone.{toldScan, runAlone}
 use Rattle.worker.specs.declared.Place.{Place}
 use Rattle.worker.specs.declared.Worker.{Worker}
 use Rattle.worker.specs.declared.Reply.{Reply}
-use Rattle.worker.specs.declared.Reply.the-variants.{Started, Placed, Kept, Served, Idle, Gave, NoPlace, Refused}
-use Rattle.worker.specs.Worker.{Did, did, at, running, stateOf, shareOf, shareIn, freshOf, admitOf, verdictOf, turnOf, collectOf}
+use Rattle.worker.specs.declared.Reply.the-variants.{Started, Placed, Kept, Served, Idle, Gave, Read, NoPlace, Refused}
+use Rattle.worker.specs.Worker.{Did, did, at, running, stateOf, shareOf, shareIn, freshOf, admitOf, verdictOf, turnOf, collectOf, bodyOf}
 
 -- ---- calls
 
@@ -43,6 +43,7 @@ pub data Ask : Type 0 where
   verdict : ℕ → Verdict → Ask
   aTurn : Ask
   collect : ℕ → Ask
+  readBody : ℕ → List ℕ → Ask
 
 -- what a call gives back, over the lent bytes
 abbrev pub didBy : List ℕ → Ask → State → Did
@@ -50,6 +51,7 @@ didBy bytes (admit p) s = did (admitOf bytes (p .at) (p .long) (p .start) (p .co
 didBy bytes (verdict i v) s = did (verdictOf i v (s .worker)) (s .words)
 didBy bytes aTurn s = turnOf bytes (s .worker) (s .words)
 didBy bytes (collect i) s = did (collectOf i (s .worker)) (s .words)
+didBy bytes (readBody i scratch) s = did (bodyOf bytes i (s .worker) scratch .out) (s .words)
 
 abbrev pub leftBy : Did → State
 leftBy d = record { worker = d .out .worker; words = d .words }
@@ -80,6 +82,7 @@ keeps Kept = true
 keeps (Served k) = false
 keeps Idle = false
 keeps (Gave a) = false
+keeps (Read b) = false
 keeps NoPlace = false
 keeps (Refused a) = false
 
@@ -90,6 +93,7 @@ gives Kept = false
 gives (Served k) = false
 gives Idle = false
 gives (Gave a) = true
+gives (Read b) = false
 gives NoPlace = false
 gives (Refused a) = false
 
@@ -99,6 +103,7 @@ verdictTo i (admit p) r = []
 verdictTo i (verdict k v) r = if keeps r && eqb k i then v ∷ [] else []
 verdictTo i aTurn r = []
 verdictTo i (collect k) r = []
+verdictTo i (readBody k scratch) r = []
 
 -- a turn while place i runs, whatever it is answered
 abbrev pub turnWhile : Bool → Ask → ℕ
@@ -106,6 +111,7 @@ turnWhile r (admit p) = 0
 turnWhile r (verdict k v) = 0
 turnWhile r aTurn = if r then 1 else 0
 turnWhile r (collect k) = 0
+turnWhile r (readBody k scratch) = 0
 
 -- the call collects place i
 abbrev pub collects : ℕ → Ask → Reply → Bool
@@ -113,6 +119,7 @@ collects i (admit p) r = false
 collects i (verdict k v) r = false
 collects i aTurn r = false
 collects i (collect k) r = gives r && eqb k i
+collects i (readBody k scratch) r = false
 
 abbrev pub verdictsTo : List ℕ → ℕ → List Ask → State → List Verdict
 verdictsTo bytes i [] s = []

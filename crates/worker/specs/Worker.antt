@@ -24,11 +24,15 @@ use Rattle.scan.specs.declared.Answer.the-variants as answer
 use Rattle.scan.specs.declared.Began.{Began}
 use Rattle.scan.specs.declared.Began.the-variants as began
 use Rattle.scan.specs.Answer as single
-use Rattle.scan.specs.Call.{Outcome, scanInRange, numbersListed, jobOf, giveOf, beginOf, runOf}
+use Rattle.scan.specs.Call.{Outcome, scanInRange, numbersListed, giveOf, beginOf, runOf}
+use Rattle.mdx_collect.specs.Collect as collect
+use Rattle.mdx_collect.specs.Collect.{Collected}
+use Rattle.mdx_collect.specs.declared.Body.{Body}
+use Rattle.mdx_collect.specs.declared.Body.the-variants as body
 use Rattle.worker.specs.declared.Place.{Place}
 use Rattle.worker.specs.declared.Worker.{Worker}
 use Rattle.worker.specs.declared.Reply.{Reply}
-use Rattle.worker.specs.declared.Reply.the-variants.{Started, Placed, Kept, Served, Idle, Gave, NoPlace, Refused}
+use Rattle.worker.specs.declared.Reply.the-variants.{Started, Placed, Kept, Served, Idle, Gave, Read, NoPlace, Refused}
 use Rattle.worker.specs.declared.Done.{Done}
 use Rattle.worker.specs.Ring.{after, seek}
 
@@ -42,6 +46,7 @@ numberOf Kept = 33
 numberOf (Served i) = 36
 numberOf Idle = 37
 numberOf (Gave a) = single.numberOf a
+numberOf (Read b) = collect.numberOf b
 numberOf NoPlace = 11
 numberOf (Refused a) = single.numberOf a
 
@@ -52,6 +57,7 @@ valuesOf Kept = []
 valuesOf (Served i) = i ∷ []
 valuesOf Idle = []
 valuesOf (Gave a) = single.valuesOf a
+valuesOf (Read b) = collect.valuesOf b
 valuesOf NoPlace = []
 valuesOf (Refused a) = single.valuesOf a
 
@@ -231,3 +237,31 @@ pub record Serving (w : Worker) (lent words k : ℕ) : Type 0 where
   pub place : k < 16
   pub buffer : words ≡ w .words
   pub page : at (w .places) k .at + at (w .places) k .scan .tokenizer .job .length ≤ lent
+
+-- ---- the body of a place
+
+-- place i has a page, which lies inside so many lent bytes
+unfoldable pub holdsPage : ℕ → ℕ → Worker → Bool
+holdsPage i lent w =
+    ltb i 16
+    && (workerInRange w
+    && (at (w .places) i .taken && inside lent (at (w .places) i .at) (at (w .places) i .scan .tokenizer .job .length)))
+
+-- the page of place i; nothing, where it has none
+unfoldable pub pageAt : List ℕ → ℕ → Worker → List ℕ
+pageAt bytes i w = if holdsPage i (length bytes) w then pageIn (at (w .places) i) bytes else []
+
+-- the single scan's own answer, as an answer of the worker
+abbrev pub bodyReply : Body → Reply
+bodyReply (body.InPage at n) = Read (body.InPage at n)
+bodyReply (body.InScratch n) = Read (body.InScratch n)
+bodyReply body.BadCall = Refused answer.BadCall
+
+abbrev pub readBy : Collected → Worker → Did
+readBy c w = did (done w (bodyReply (c .body))) (c .scratch)
+
+-- the worker stays as it is
+unfoldable pub bodyOf : List ℕ → ℕ → Worker → List ℕ → Did
+bodyOf bytes i w scratch =
+    if holdsPage i (length bytes) w then readBy (collect.collectOf (pageIn (at (w .places) i) bytes) (at (w .places) i .scan) scratch) w
+    else did (refused w) scratch

@@ -4,14 +4,14 @@ use base::state;
 use machine::Job;
 use machine::Regs;
 use machine::Tokenizer;
+use mdx_collect::Body;
 use scan::Answer;
 use scan::Began;
 use scan::Scan;
 ghost use mathlib.Core.Path.{_≡_};
 ghost use Prim.Native.Nat.{_+_, _*_, _/_, _≤_, _<_};
 ghost use lib.ListN.{length};
-ghost use Rattle.scan.specs.Call.{numbersListed};
-ghost use Rattle.worker.specs.Worker.{noJob, freePlace, running, finished, ready, isKept, shareOf, workerInRange, nextIn, lowestIn, stored, refused, startOf, placedBy, admitOf, verdictOf, collectOf, did, servedAt, turnOf, Serving};
+ghost use Rattle.worker.specs.Worker.{noJob, freePlace, running, finished, ready, isKept, shareOf, workerInRange, nextIn, lowestIn, stored, refused, startOf, placedBy, admitOf, verdictOf, collectOf, did, servedAt, turnOf, Serving, holdsPage, pageAt, bodyReply, bodyOf};
 
 // The places of a worker.
 const PLACES: usize = 16;
@@ -51,6 +51,8 @@ pub enum Reply {
     Idle,
     // The answer of a finished page, whose place is free again.
     Gave(Answer),
+    // Where the body is that a place asks about, counted from its page's first byte.
+    Read(Body),
     // All places are taken.
     NoPlace,
     // The call is refused, and the worker is as it was.
@@ -173,20 +175,15 @@ fn share_of(words: usize) -> usize
     words / WORDS_OF_SIXTEEN * 2
 }
 
-// Whether docs/NUMBERS.md lists the numbers.
-fn numbers_listed(construct: u8, kind: u8, flags: u8) -> bool
-    ensures { λ r. ⌜ r ≡ numbersListed construct kind flags ⌝ }
+// A single scan's answer about a body, as the worker's.
+fn body_reply(body: Body) -> Reply
+    ensures { λ r. ⌜ r ≡ bodyReply body ⌝ }
 {
-    if 2 < construct {
-        return false;
+    match body {
+        Body::InPage { at, length } => Reply::Read(Body::InPage { at, length }),
+        Body::InScratch { length } => Reply::Read(Body::InScratch { length }),
+        Body::BadCall => Reply::Refused(Answer::BadCall),
     }
-    if 1 < kind {
-        return false;
-    }
-    if 3 < flags {
-        return false;
-    }
-    true
 }
 
 impl Worker {
@@ -291,7 +288,7 @@ impl Worker {
     ) -> Done
         ensures { λ r. ⌜ r ≡ admitOf (now (bytes .entry)) at length start construct kind flags self ⌝ }
     {
-        if !numbers_listed(construct, kind, flags) {
+        if !scan::numbers_listed(construct, kind, flags) {
             return self.refuse();
         }
         if !self.in_range() {
@@ -446,5 +443,51 @@ impl Worker {
             worker,
             reply: Reply::Served(k),
         }
+    }
+
+    // Whether place i has a page, which lies inside so many lent bytes.
+    fn holds_page(self, i: usize, lent: usize) -> bool
+        ensures { λ r. ⌜ r ≡ holdsPage i lent self ⌝ }
+    {
+        if PLACES <= i {
+            return false;
+        }
+        if !self.in_range() {
+            return false;
+        }
+        let p = self.places[i];
+        if p.taken {
+            return page::lies_inside(lent, p.at, p.scan.tokenizer.job.length);
+        }
+        false
+    }
+
+    // Where the body is that place i asks about: a part of its page, or the front of the scratch it was copied to.
+    pub fn body(self, bytes: &[u8], i: usize, scratch: &mut [u8]) -> Done
+        ensures { λ r. ⌜ did r (now (scratch .exit)) ≡ bodyOf (now (bytes .entry)) i self (now (scratch .entry)) ⌝ }
+    {
+        if !self.holds_page(i, bytes.len()) {
+            return self.refuse();
+        }
+        let p = self.places[i];
+        let scan = p.scan;
+        let from = p.at;
+        let to = from + scan.tokenizer.job.length;
+        let body = mdx_collect::collect(scan, &bytes[from..to], scratch);
+        Done {
+            worker: self,
+            reply: body_reply(body),
+        }
+    }
+
+    // The page of place i, of which `mdx_collect::part` reads the body; nothing, where the place has none.
+    pub fn page<'a>(self, bytes: &'a [u8], i: usize) -> &'a [u8]
+        ensures { λ r. ⌜ now r ≡ pageAt (now (bytes .entry)) i self ⌝ }
+    {
+        if self.holds_page(i, bytes.len()) {
+            let p = self.places[i];
+            return mdx_collect::piece(bytes, p.at, p.scan.tokenizer.job.length);
+        }
+        mdx_collect::piece(bytes, 0, 0)
     }
 }

@@ -2,14 +2,10 @@ use Rattle.worker.specs.Worker.{nextIn, running, at}
 use Rattle.worker.specs.Ring.{seek, seek-here, seek-on, seek-none}
 use borrow.Author.Needs.{needs}
 use native.Mathlib.Omega.{arith}
-use Prim.Native.Nat.{ℕ, _-_, _≤_, _<_}
+use Prim.Native.Nat.{_-_, _≤_, _<_}
 use mathlib.Core.Path.{_≡_, refl, sym, ap, _∙_}
-use lib.Dec.{eqb}
 use Rattle.worker.proofs.Worker.next.Statement.{statement}
 use Rattle.worker.proofs.Worker.next.Tie as tie
-use Rattle.worker.proofs.Worker.next.Reads as reads
-use Rattle.worker.proofs.Worker.next.Lts as lts
-use Rattle.worker.proofs.is_running.Reads as is-running-reads
 
 abbrev Inv-loop : tie.InvT-loop
 Inv-loop self j₀ k₀ j k = (k ≤ 16) × (j < 16) × (nextIn (self .places) (self .last) ≡ seek (λ n. running (at (self .places) n)) j (16 - k))

@@ -1,4 +1,3 @@
-use mathlib.Core.Path.{ap}
 use borrow.Author.Needs.{needs}
 use Rattle.worker.proofs.Worker.place.Statement.{statement}
 use Rattle.worker.proofs.Worker.place.Tie as tie

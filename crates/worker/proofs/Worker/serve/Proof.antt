@@ -1,5 +1,4 @@
 use native.Mathlib.Omega.{arith}
-use mathlib.Core.Path.{sym, ap, _∙_}
 use borrow.Author.Needs.{needs}
 use Rattle.worker.proofs.Laws.{part-fits, served-by}
 use Rattle.worker.proofs.Worker.serve.Statement.{statement}

@@ -1,0 +1,126 @@
+-- The body that an asking scan hands over, read from page and state alone.
+--
+-- Document 01, 'Body': "The data and line endings in order, without line prefixes. The reader gets back a part of the page when no prefix
+-- stands between two of its bytes, else a part of the lent scratch it was copied to. It is asked of a state that is Asking, its page
+-- inside the lent bytes, else 12, and read from page and state alone. Scratch too short, where needed: 12, scratch untouched; past the
+-- copy it stays as lent."
+--
+-- The crate collects the events (`util/mdx_collect.rs`). That what is said here is the same, for every scan that calls gave, is the theorem
+-- `the-body-is-what-the-events-say`, in proofs/.
+use Prim.Native.Nat.{ℕ, _-_}
+use mathlib.Core.Path.{_≡_}
+use mathlib.Core.Bool.{Bool, true, false, _&&_, _||_}
+use mathlib.Core.List.{List, [], _∷_}
+use lib.Dec.{leb, eqb}
+use lib.ListN.{length}
+use lib.Seq.{sets}
+use Rattle.base.specs.If.{if_then_else_}
+use Rattle.base.specs.State.{asking}
+use Rattle.body.specs.Body.{placesFrom, expressionPlaces, allFrom, bytesAt}
+use Rattle.page.specs.Page.{inside, pageOf}
+use Rattle.machine.specs.Ranges.{esm}
+use Rattle.scan.specs.declared.Scan.{Scan}
+use Rattle.scan.specs.Call.{scanInRange, verdictState}
+use Rattle.mdx_collect.specs.declared.Body.{Body}
+use Rattle.mdx_collect.specs.declared.Body.the-variants.{InPage, InScratch, BadCall}
+
+-- ---- the answers, by number and values; those that the answer table does not number follow the worker's
+
+abbrev pub numberOf : Body → ℕ
+numberOf (InPage at n) = 38
+numberOf (InScratch n) = 39
+numberOf BadCall = 12
+
+abbrev pub valuesOf : Body → List ℕ
+valuesOf (InPage at n) = at ∷ n ∷ []
+valuesOf (InScratch n) = n ∷ []
+valuesOf BadCall = []
+
+-- it is no refusal
+abbrev pub handedOver : Body → Bool
+handedOver (InPage at n) = true
+handedOver (InScratch n) = true
+handedOver BadCall = false
+
+-- ---- where the body is
+
+-- where it begins: an ESM block at its word, an expression after its `{`
+abbrev pub first : Scan → ℕ
+first s = if eqb (s .tokenizer .job .construct) esm then s .tokenizer .job .start else s .tokenizer .regs .body
+
+-- no line prefix stands before this place: the place of the first one (a register of the scan), or the place that asks. "ESM: nothing is
+-- dropped"
+abbrev pub seam : Scan → ℕ
+seam s =
+    if eqb (s .tokenizer .job .construct) esm then s .tokenizer .at
+    else if eqb (s .tokenizer .regs .joint) 0 then s .tokenizer .at
+    else s .tokenizer .regs .joint
+
+-- no byte of the body stands from a line prefix at `from` on: there are at most two tabs or spaces
+unfoldable pub onlyPrefix : List ℕ → ℕ → ℕ → Bool
+onlyPrefix page from to = eqb (length (placesFrom page 2 from (to - from))) 0
+
+-- no prefix stands between two bytes of the body
+abbrev pub unbroken : List ℕ → Scan → Bool
+unbroken page s = onlyPrefix page (seam s) (s .tokenizer .at)
+
+-- the places of the body's bytes
+unfoldable pub bodyPlaces : List ℕ → Scan → List ℕ
+bodyPlaces page s =
+    if unbroken page s then allFrom (first s) (seam s - first s)
+    else expressionPlaces page (first s) (s .tokenizer .at)
+
+unfoldable pub bodyOf : List ℕ → Scan → List ℕ
+bodyOf page s = bytesAt page (bodyPlaces page s)
+
+-- ---- the call that copies
+
+-- a state that is Asking, also with a verdict kept and not applied
+abbrev pub asksIn : ℕ → ℕ → Bool
+asksIn name construct = eqb name asking || eqb name (verdictState construct)
+
+-- over a page of the scan's length
+unfoldable pub asked : Scan → ℕ → Bool
+asked s n =
+    asksIn (s .tokenizer .state) (s .tokenizer .job .construct)
+    && (eqb n (s .tokenizer .job .length)
+    && scanInRange s)
+
+-- what the call leaves: where the body is, and the scratch
+pub record Collected : Type 0 where
+  pub body : Body
+  pub scratch : List ℕ
+
+abbrev pub collected : Body → List ℕ → Collected
+collected body scratch = record { body = body; scratch = scratch }
+
+-- the body copied to the front of the scratch
+abbrev pub copiedOf : List ℕ → List ℕ → List ℕ → Collected
+copiedOf page places scratch =
+    if leb (length places) (length scratch) then collected (InScratch (length places)) (sets scratch 0 (bytesAt page places))
+    else collected BadCall scratch
+
+unfoldable pub collectOf : List ℕ → Scan → List ℕ → Collected
+collectOf page s scratch =
+    if asked s (length page) then
+    (if unbroken page s then collected (InPage (first s) (seam s - first s)) scratch
+    else copiedOf page (expressionPlaces page (first s) (s .tokenizer .at)) scratch)
+    else collected BadCall scratch
+
+-- ---- the part that is read
+
+-- n bytes from a place on; nothing, where they are not there
+abbrev pub pieceOf : List ℕ → ℕ → ℕ → List ℕ
+pieceOf bytes at n = if inside (length bytes) at n then pageOf bytes at n else []
+
+abbrev pub partOf : List ℕ → List ℕ → Body → List ℕ
+partOf page scratch (InPage at n) = pieceOf page at n
+partOf page scratch (InScratch n) = pieceOf scratch 0 n
+partOf page scratch BadCall = []
+
+-- what is read after a call that is not refused is the body: for every page, state and scratch
+abbrev pub PartIsBody : Type 0
+PartIsBody =
+    (page : List ℕ) (s : Scan) (scratch : List ℕ)
+    → let c = collectOf page s scratch in
+    handedOver (c .body) ≡ true → partOf page (c .scratch) (c .body) ≡ bodyOf page s
