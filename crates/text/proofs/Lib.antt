@@ -3,3 +3,5 @@ pub mod Same
 pub mod Digits
 pub mod Pairs
 pub mod Decoding
+pub mod Taking
+pub mod Filling

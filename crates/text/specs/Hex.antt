@@ -5,12 +5,13 @@ use mathlib.Core.List.{List, [], _∷_}
 use lib.Dec.{ltb, leb}
 use lib.ListN.{length}
 use lib.Seq.{sets}
-use Rattle.base.specs.Byte.{digit0, digit9, smallA}
+use Rattle.base.specs.Byte.{digit0, digit9, smallA, hyphen}
 use Rattle.base.specs.If.{if_then_else_}
 use Rattle.base.specs.Range.{within}
 use Rattle.text.specs.declared.hexadecimal.Hex.{Hex}
 use Rattle.text.specs.declared.hexadecimal.Hex.the-variants.{Decoded, BadHex, NoRoom}
 use Rattle.text.specs.Part.{part, lies}
+use Rattle.text.specs.Word.{same}
 
 abbrev pub smallF : ℕ
 smallF = 102
@@ -52,3 +53,20 @@ abbrev pub bufferOf : List ℕ → ℕ → ℕ → List ℕ → List ℕ
 bufferOf line from to out =
     if saysBytes line from to then (if leb (countOf line from to) (length out) then sets out 0 (bytesOf (part line from to)) else out)
     else out
+
+-- the field says that there are no bytes
+abbrev pub dashed : List ℕ → ℕ → ℕ → Bool
+dashed line from to = lies line from to && same (part line from to) (hyphen ∷ [])
+
+-- a field of bytes: hex, or a dash
+abbrev pub readOf : List ℕ → ℕ → ℕ → ℕ → Hex
+readOf line from to room =
+    if dashed line from to then Decoded 0
+    else if leb to from then BadHex
+    else decodedOf line from to room
+
+abbrev pub readInto : List ℕ → ℕ → ℕ → List ℕ → List ℕ
+readInto line from to out =
+    if dashed line from to then out
+    else if leb to from then out
+    else bufferOf line from to out

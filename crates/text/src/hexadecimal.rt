@@ -1,10 +1,11 @@
-// Bytes written as pairs of hex digits, in lower case.
+// Bytes written as pairs of hex digits, in lower case; and as `-` where there are none.
+use crate::words::is_word;
 ghost use mathlib.Core.Path.{_≡_};
 ghost use Prim.Native.Nat.{_≤_, _/_};
 ghost use mathlib.Core.Bool.{true};
 ghost use lib.ListN.{length};
 ghost use lib.Seq.{sets};
-ghost use Rattle.text.specs.Hex.{hexValue, pairs, bytesOf, decodedOf, bufferOf};
+ghost use Rattle.text.specs.Hex.{hexValue, pairs, bytesOf, decodedOf, bufferOf, readOf, readInto};
 
 // What hex_value answers for a byte that is no digit.
 pub const NO_DIGIT: u8 = 16;
@@ -25,6 +26,20 @@ pub fn hex_value(byte: u8) -> u8
         b'a'..=b'f' => byte - b'a' + 10,
         _ => NO_DIGIT,
     }
+}
+
+// A field of bytes: as decode_hex reads them, or `-` for none. A field is never empty.
+pub fn read_bytes(line: &[u8], from: usize, to: usize, out: &mut [u8]) -> Hex
+    ensures { λ r. ⌜ r ≡ readOf (now (line .entry)) from to (length (now (out .entry))) ⌝ }
+    ensures { λ _. ⌜ now (out .exit) ≡ readInto (now (line .entry)) from to (now (out .entry)) ⌝ }
+{
+    if is_word(line, from, to, b"-") {
+        return Hex::Decoded(0);
+    }
+    if to <= from {
+        return Hex::BadHex;
+    }
+    decode_hex(line, from, to, out)
 }
 
 // The bytes that the part says, put at the start of the buffer. All is looked at before anything is written, so a

@@ -1,0 +1,69 @@
+-- The next line of what is read of an input and not used up: the bytes of a buffer from one place up to another.
+use Prim.Native.Nat.{ℕ, _+_, _-_, _≤_}
+use mathlib.Core.Path.{_≡_}
+use mathlib.Core.Bool.{Bool, true, false}
+use mathlib.Core.List.{List}
+use lib.Dec.{eqb, ltb}
+use lib.ListN.{length}
+use Rattle.base.specs.Byte.{lineFeed}
+use Rattle.base.specs.If.{if_then_else_}
+use Rattle.text.specs.declared.input.Input.{Input}
+use Rattle.text.specs.declared.input.Line.{Line}
+use Rattle.text.specs.declared.input.Line.the-variants.{Whole, TooLong, Skipped, More, Ended}
+use Rattle.text.specs.declared.input.Taken.{Taken}
+use Rattle.text.specs.Find.{findFrom}
+use Rattle.text.specs.Part.{part}
+
+unfoldable pub leastOf : ℕ → ℕ → ℕ
+leastOf a b = if ltb a b then a else b
+
+-- no bytes are left over
+abbrev pub frontInput : Bool → Input
+frontInput skips = record { at = 0; end = 0; skips = skips; ended = false }
+
+abbrev pub cutOf : Line → ℕ → ℕ → Input → Taken
+cutOf line from to input = record { line = line; from = from; to = to; input = input }
+
+-- a line that ends in a line feed
+unfoldable pub lineOf : ℕ → ℕ → ℕ → Bool → Bool → Taken
+lineOf at mark end skips ended =
+    if skips then cutOf Skipped at mark (record { at = mark + 1; end = end; skips = false; ended = ended })
+    else cutOf Whole at mark (record { at = mark + 1; end = end; skips = false; ended = ended })
+
+-- what is left when the input has ended
+unfoldable pub lastOf : ℕ → ℕ → Bool → Taken
+lastOf at end skips =
+    if skips then cutOf Ended at end (record { at = end; end = end; skips = false; ended = true })
+    else if eqb at end then cutOf Ended at end (record { at = end; end = end; skips = false; ended = true })
+    else cutOf Whole at end (record { at = end; end = end; skips = false; ended = true })
+
+-- no line feed stands in the unused bytes
+unfoldable pub restOf : ℕ → ℕ → ℕ → Bool → Bool → Taken
+restOf at end room skips ended =
+    if ended then lastOf at end skips
+    else if skips then cutOf More at end (frontInput true)
+    else if eqb (end - at) room then cutOf TooLong at end (frontInput true)
+    else cutOf More at end (record { at = at; end = end; skips = skips; ended = ended })
+
+abbrev pub takenAt : List ℕ → ℕ → ℕ → Bool → Bool → Taken
+takenAt buffer at end skips ended =
+    if ltb (findFrom (part buffer 0 end) at lineFeed) end then lineOf at (findFrom (part buffer 0 end) at lineFeed) end skips ended
+    else restOf at end (length buffer) skips ended
+
+-- places past the buffer's end count as its end
+abbrev pub endIn : ℕ → Input → ℕ
+endIn room i = leastOf (i .end) room
+
+abbrev pub atIn : ℕ → Input → ℕ
+atIn room i = leastOf (i .at) (endIn room i)
+
+abbrev pub takenOf : List ℕ → Input → Taken
+takenOf buffer i = takenAt buffer (atIn (length buffer) i) (endIn (length buffer) i) (i .skips) (i .ended)
+
+-- a buffer with so much room was filled: what was unused stands at its front, and the input has ended if nothing came
+pub record Filled (room : ℕ) (i r : Input) : Type 0 where
+  pub front : r .at ≡ 0
+  pub kept : endIn room i - atIn room i ≤ r .end
+  pub within : r .end ≤ room
+  pub skipping : r .skips ≡ i .skips
+  pub over : r .ended ≡ eqb (r .end - (endIn room i - atIn room i)) 0
