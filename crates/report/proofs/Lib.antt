@@ -1,2 +1,5 @@
 pub mod Copied
+pub mod Digits
 pub mod Names
+pub mod Lowering
+pub mod Room

@@ -1,7 +1,13 @@
-// The names of the kinds of an event: the crate's, less a leading `Mdx`, in lower case with hyphens.
+// Events as text. The names of their kinds are the crate's, less a leading `Mdx`, in lower case with hyphens.
+use crate::pieces::number;
+use crate::pieces::spaced;
 use crate::pieces::text;
 use base::kind;
+ghost use mathlib.Core.Path.{_≡_};
+ghost use Prim.Native.Nat.{_≤_};
+ghost use lib.ListN.{length};
 ghost use Rattle.report.specs.Put.{Puts};
+ghost use Rattle.report.specs.Event.{kindOf, verbOf, signOf, Mark, EventLine};
 ghost use Rattle.report.specs.Name.{kindName, expressionName, tagName, attributeName, lastName};
 
 // A number that is no kind's is `unknown`.
@@ -101,4 +107,57 @@ fn last_name(out: &mut [u8], at: usize, number: u8) -> usize
         kind::ESM_DATA => text(out, at, b"esm-data"),
         _ => text(out, at, b"unknown"),
     }
+}
+
+// The largest first word whose kind is a byte.
+const LARGEST_WORD: u32 = 511;
+
+// The kind in an event's first word; 0, which is none, of a word that is no event's.
+pub fn kind_of(word: u32) -> u8
+    ensures { λ r. ⌜ r ≡ kindOf word ⌝ }
+{
+    if LARGEST_WORD < word {
+        return 0;
+    }
+    (word / 2) as u8
+}
+
+// A space, `+` or `-`, the name, `@` and the offset.
+pub fn event_mark(out: &mut [u8], at: usize, word: u32, offset: u32) -> usize
+    ensures { λ r. ⌜ r ≤ length (now (out .exit)) ⌝ }
+    ensures { λ r. ⌜ Mark word offset (now (out .entry)) at r (now (out .exit)) ⌝ }
+{
+    let past = sign(out, at, word);
+    let past = kind_name(out, past, kind_of(word));
+    let past = text(out, past, b"@");
+    number(out, past, offset as u64)
+}
+
+fn sign(out: &mut [u8], at: usize, word: u32) -> usize
+    ensures { λ r. ⌜ Puts (now (out .entry)) at (signOf word) r (now (out .exit)) ⌝ }
+{
+    if word % 2 == 0 {
+        return text(out, at, b" +");
+    }
+    text(out, at, b" -")
+}
+
+// `enter` or `exit`, the name, the offset and a line feed.
+pub fn event_line(out: &mut [u8], at: usize, word: u32, offset: u32) -> usize
+    ensures { λ r. ⌜ r ≤ length (now (out .exit)) ⌝ }
+    ensures { λ r. ⌜ EventLine word offset (now (out .entry)) at r (now (out .exit)) ⌝ }
+{
+    let past = verb(out, at, word);
+    let past = kind_name(out, past, kind_of(word));
+    let past = spaced(out, past, offset as usize);
+    text(out, past, b"\n")
+}
+
+fn verb(out: &mut [u8], at: usize, word: u32) -> usize
+    ensures { λ r. ⌜ Puts (now (out .entry)) at (verbOf word) r (now (out .exit)) ⌝ }
+{
+    if word % 2 == 0 {
+        return text(out, at, b"enter ");
+    }
+    text(out, at, b"exit ")
 }

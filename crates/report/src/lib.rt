@@ -1,13 +1,33 @@
-// Text for the programs that write answers and events: bytes, numbers and names are put into a lent buffer.
+// For programs that write answers and events: bytes, numbers, hex digits, names, answers and events as text, put into a lent
+// buffer; and such a buffer on its way to standard output.
 //
-// Each function puts its text at a place of the buffer and answers the place past it. Text that does not fit is not put
-// there at all, and the place stays. A place past the buffer's end counts as its end.
+// Each function puts its text at a place of the buffer and answers the place past it. A piece of text that does not fit is not
+// put there at all, and the place stays. A place past the buffer's end counts as its end.
 mod answers;
 mod events;
+mod output;
 mod pieces;
+mod small;
+mod wording;
 
 pub use answers::Told;
 pub use answers::tell;
+pub use events::event_line;
+pub use events::event_mark;
 pub use events::kind_name;
+pub use events::kind_of;
+pub use output::flush;
+pub use output::make_room;
+pub use output::put;
+pub use output::put_event_lines;
+pub use output::put_hex;
+pub use output::put_marks;
+pub use output::put_number;
+pub use pieces::hex;
 pub use pieces::number;
+pub use pieces::spaced;
 pub use pieces::text;
+pub use pieces::value;
+pub use small::in_small;
+pub use wording::answer_name;
+pub use wording::answer_text;

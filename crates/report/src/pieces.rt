@@ -1,9 +1,10 @@
-// Bytes and numbers.
+// Bytes, numbers and hex digits.
 ghost use mathlib.Core.Path.{_≡_};
-ghost use Prim.Native.Nat.{_+_, _≤_};
+ghost use Prim.Native.Nat.{_+_, _*_, _≤_, _<_};
 ghost use lib.ListN.{length};
 ghost use lib.Seq.{sets};
-ghost use Rattle.report.specs.Put.{Puts, PutsNumber};
+ghost use Rattle.report.specs.Hex.{digitOf, hexOf, fieldOf};
+ghost use Rattle.report.specs.Put.{Puts, PutsNumber, Spaced, Value};
 
 // The bytes, whole or not at all.
 pub fn text(out: &mut [u8], at: usize, bytes: &[u8]) -> usize
@@ -37,4 +38,61 @@ pub fn number(out: &mut [u8], at: usize, n: u64) -> usize
     let mut digits = [0u8; 20];
     let count = io::decimal(n, &mut digits);
     text(out, at, &digits[..count])
+}
+
+// A space and the number.
+pub fn spaced(out: &mut [u8], at: usize, n: usize) -> usize
+    ensures { λ r. ⌜ r ≤ length (now (out .exit)) ⌝ }
+    ensures { λ r. ⌜ Spaced n (now (out .entry)) at r (now (out .exit)) ⌝ }
+{
+    let past = text(out, at, b" ");
+    number(out, past, n as u64)
+}
+
+// The same, or nothing where the number is not carried.
+pub fn value(out: &mut [u8], at: usize, carried: bool, n: usize) -> usize
+    ensures { λ r. ⌜ r ≤ length (now (out .exit)) ⌝ }
+    ensures { λ r. ⌜ Value carried n (now (out .entry)) at r (now (out .exit)) ⌝ }
+{
+    if carried {
+        return spaced(out, at, n);
+    }
+    text(out, at, b"")
+}
+
+// A field of bytes: two hex digits for each, or `-` where there are none. It is put whole or not at all.
+pub fn hex(out: &mut [u8], at: usize, bytes: &[u8]) -> usize
+    ensures { λ r. ⌜ Puts (now (out .entry)) at (fieldOf (now (bytes .entry))) r (now (out .exit)) ⌝ }
+{
+    if bytes.len() == 0 {
+        return text(out, at, b"-");
+    }
+    if out.len() < at {
+        return out.len();
+    }
+    if (out.len() - at) / 2 < bytes.len() {
+        return at;
+    }
+    put_digits(out, at, bytes);
+    at + bytes.len() * 2
+}
+
+fn put_digits(out: &mut [u8], at: usize, bytes: &[u8])
+    requires { ⌜ at + length (now bytes) * 2 ≤ length (now out) ⌝ }
+    ensures { λ _. ⌜ now (out .exit) ≡ sets (now (out .entry)) at (hexOf (now (bytes .entry))) ⌝ }
+{
+    let mut i = 0;
+    while i < bytes.len() {
+        let b = bytes[i];
+        out[at + i * 2] = hex_digit(b / 16);
+        out[at + i * 2 + 1] = hex_digit(b % 16);
+        i += 1;
+    }
+}
+
+fn hex_digit(n: u8) -> u8
+    requires { ⌜ n < 16 ⌝ }
+    ensures { λ r. ⌜ r ≡ digitOf n ⌝ }
+{
+    if n < 10 { b'0' + n } else { 87 + n }
 }

@@ -3,7 +3,7 @@ use Prim.Native.Nat.{ℕ, _+_, _-_}
 use mathlib.Core.List.{List}
 use lib.Dec.{eqb, ltb, leb}
 use lib.ListN.{length, getD}
-use Rattle.base.specs.Byte.{space}
+use Rattle.base.specs.Byte.{space, digit0, smallE}
 use Rattle.base.specs.If.{if_then_else_}
 use Rattle.text.specs.declared.letters.Letters.{Letters}
 use Rattle.text.specs.declared.letters.ReadLetters.{ReadLetters}
@@ -13,6 +13,24 @@ use Rattle.text.specs.declared.letters.ReadLetters.the-variants.{Asked, 
 abbrev pub none : ℕ
 none = 255
 
+abbrev pub smallC : ℕ
+smallC = 99
+
+abbrev pub smallF : ℕ
+smallF = 102
+
+abbrev pub smallS : ℕ
+smallS = 115
+
+abbrev pub smallT : ℕ
+smallT = 116
+
+abbrev pub smallV : ℕ
+smallV = 118
+
+abbrev pub digit1 : ℕ
+digit1 = 49
+
 -- the letter at a place, if a space follows it; else 0
 unfoldable pub letterAt : List ℕ → ℕ → ℕ
 letterAt line at =
@@ -21,18 +39,19 @@ letterAt line at =
     else if eqb (getD line (at + 1) 0) space then getD line at 0
     else 0
 
--- e, t, s
+-- an expression, a tag, an ESM block
 unfoldable pub constructOf : ℕ → ℕ
 constructOf b =
-    if eqb b 101 then 0
-    else if eqb b 116 then 1
-    else if eqb b 115 then 2
+    if eqb b smallE then 0
+    else if eqb b smallT then 1
+    else if eqb b smallS then 2
     else none
 
+-- the first of two letters, or the second
 unfoldable pub choiceOf : ℕ → ℕ → ℕ → ℕ
-choiceOf b zero one =
-    if eqb b zero then 0
-    else if eqb b one then 1
+choiceOf b first second =
+    if eqb b first then 0
+    else if eqb b second then 1
     else none
 
 unfoldable pub flagsOf : ℕ → ℕ → ℕ
@@ -49,12 +68,12 @@ checkedOf construct kind mode interrupt =
     else if eqb interrupt none then NoLetters
     else Asked (record { construct = construct; kind = kind; flags = flagsOf mode interrupt })
 
--- f or t, c or v, 0 or 1
+-- flow or text, counting or with verdicts, the interrupt flag clear or set
 abbrev pub lettersOf : List ℕ → ℕ → ReadLetters
 lettersOf line from =
     if ltb (length line) 8 then NoLetters
     else if ltb (length line - 8) from then NoLetters
     else
-    checkedOf (constructOf (letterAt line from)) (choiceOf (letterAt line (from + 2)) 102 116)
-    (choiceOf (letterAt line (from + 4)) 99 118)
-    (choiceOf (letterAt line (from + 6)) 48 49)
+    checkedOf (constructOf (letterAt line from)) (choiceOf (letterAt line (from + 2)) smallF smallT)
+    (choiceOf (letterAt line (from + 4)) smallC smallV)
+    (choiceOf (letterAt line (from + 6)) digit0 digit1)

@@ -4,6 +4,7 @@ use mathlib.Core.List.{List}
 use lib.Dec.{eqb, ltb, leb}
 use lib.ListN.{length, getD}
 use Rattle.base.specs.declared.Verdict.the-variants.{Fine, Unfinished, Wrong}
+use Rattle.base.specs.Byte.{atSign, smallE}
 use Rattle.base.specs.If.{if_then_else_}
 use Rattle.text.specs.declared.numbers.Parsed.{Parsed}
 use Rattle.text.specs.declared.numbers.Parsed.the-variants.{Number, Bad}
@@ -11,6 +12,12 @@ use Rattle.text.specs.declared.verdicts.ReadVerdict.{ReadVerdict}
 use Rattle.text.specs.declared.verdicts.ReadVerdict.the-variants.{Heard, NoVerdict}
 use Rattle.text.specs.Decimal.{largest, decimalOf}
 use Rattle.text.specs.Find.{findFrom}
+
+abbrev pub smallO : ℕ
+smallO = 111
+
+abbrev pub smallU : ℕ
+smallU = 117
 
 unfoldable pub fineOf : ℕ → ReadVerdict
 fineOf n = if eqb n 1 then Heard Fine else NoVerdict
@@ -30,14 +37,13 @@ wrongAtOf Bad o = NoVerdict
 
 -- the number stands before the first @, and the offset after it
 unfoldable pub wrongOf : List ℕ → ℕ → ℕ → ReadVerdict
-wrongOf line from to = wrongAtOf (decimalOf line from (findFrom line from 64)) (decimalOf line (findFrom line from 64 + 1) to)
+wrongOf line from to = wrongAtOf (decimalOf line from (findFrom line from atSign)) (decimalOf line (findFrom line from atSign + 1) to)
 
--- o, u, e
 unfoldable pub verdictOf : List ℕ → ℕ → ℕ → ReadVerdict
 verdictOf line from to =
     if leb to from then NoVerdict
     else if ltb (length line) to then NoVerdict
-    else if eqb (getD line from 0) 111 then fineOf (to - from)
-    else if eqb (getD line from 0) 117 then unfinishedOf (decimalOf line (from + 1) to)
-    else if eqb (getD line from 0) 101 then wrongOf line (from + 1) to
+    else if eqb (getD line from 0) smallO then fineOf (to - from)
+    else if eqb (getD line from 0) smallU then unfinishedOf (decimalOf line (from + 1) to)
+    else if eqb (getD line from 0) smallE then wrongOf line (from + 1) to
     else NoVerdict

@@ -1,0 +1,14 @@
+-- Where a buffer on its way to standard output goes on.
+use Prim.Native.Nat.{ℕ, _-_, _≤_, _<_}
+use mathlib.Core.Path.{_≡_}
+use Rattle.base.specs.If.{picks}
+use Rattle.report.specs.Output.{inRoom, freePlace}
+
+module _ (room used count at : ℕ) (e : at ≡ inRoom room used) where
+  pub written-out : room - at < count → 0 ≡ freePlace room used count
+  unfolding freePlace
+  written-out h = rw (← e) (search picks depth 12)
+
+  pub room-enough : count ≤ room - at → at ≡ freePlace room used count
+  unfolding freePlace
+  room-enough h = rw (← e) (search picks depth 12)

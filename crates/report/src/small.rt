@@ -1,0 +1,26 @@
+// Letters in lower case.
+ghost use mathlib.Core.Path.{_≡_};
+ghost use Rattle.report.specs.Small.{smallOf, InSmall};
+
+// Every capital of the text becomes the small letter; every other byte stays.
+pub fn in_small(text: &mut [u8])
+    ensures { λ _. ⌜ InSmall (now (text .entry)) (now (text .exit)) ⌝ }
+{
+    let mut i = 0;
+    while i < text.len() {
+        text[i] = small(text[i]);
+        i += 1;
+    }
+}
+
+fn small(byte: u8) -> u8
+    ensures { λ r. ⌜ r ≡ smallOf byte ⌝ }
+{
+    if byte < b'A' {
+        return byte;
+    }
+    if b'Z' < byte {
+        return byte;
+    }
+    byte + 32
+}
