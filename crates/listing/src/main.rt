@@ -9,8 +9,6 @@ use report::tell;
 use scan::Answer;
 use scan::Began;
 use scan::Scan;
-ghost use Prim.Native.Nat.{_≤_};
-ghost use lib.ListN.{length};
 
 // The longest page, and room for one byte more, which shows that a page is longer.
 const LONGEST: usize = 60_000;
@@ -21,9 +19,6 @@ const PAGE_ROOM: usize = 60_001;
 const WORD_ROOM: usize = 720_012;
 
 const TEXT_ROOM: usize = 65_536;
-
-// More than any line takes.
-const LINE_ROOM: usize = 256;
 
 // More steps than a run over the longest page takes, and more runs than it asks for verdicts.
 const ALLOWANCE: usize = 480_016;
@@ -54,8 +49,6 @@ fn list(space: &mut [u8], words: &mut [u32], out: &mut [u8]) {
     let answer = answer_of(&space[0..count], words);
     list_answer(tell(answer), words, out);
 }
-
-// ---- the scan
 
 fn answer_of(page: &[u8], words: &mut [u32]) -> Answer {
     let construct = construct_of(page);
@@ -114,126 +107,17 @@ fn asks(answer: Answer) -> bool {
     }
 }
 
-// ---- what is written
-
 fn list_answer(told: Told, words: &[u32], out: &mut [u8]) {
     let used = first_line(out, told);
-    let used = event_lines(words, told.events, out, used);
-    io::write_all(STDOUT_FILENO, &out[0..used]);
+    let used = report::put_event_lines(out, used, words, told.events);
+    report::flush(out, used);
 }
 
-fn first_line(out: &mut [u8], told: Told) -> usize
-    ensures { λ r. ⌜ r ≤ length (now (out .exit)) ⌝ }
-{
-    let at = answer_name(out, 0, told.number);
-    let at = values(out, at, told);
-    let at = counts(out, at, told);
+// The answer in lower case, and its steps and event count where it carries them.
+fn first_line(out: &mut [u8], told: Told) -> usize {
+    let end = report::answer_text(out, 0, told);
+    report::in_small(&mut out[0..end]);
+    let at = report::value(out, end, told.counted, told.steps);
+    let at = report::value(out, at, told.counted, told.events);
     report::text(out, at, b"\n")
-}
-
-// The answer's name in lower case.
-fn answer_name(out: &mut [u8], at: usize, number: u8) -> usize {
-    match number {
-        0 => report::text(out, at, b"done"),
-        1 => report::text(out, at, b"nok"),
-        2 => report::text(out, at, b"toolong"),
-        3 => report::text(out, at, b"badstart"),
-        4 => report::text(out, at, b"badtext"),
-        5 => report::text(out, at, b"notascii"),
-        6 => report::text(out, at, b"eof"),
-        7 => report::text(out, at, b"unexpected"),
-        8 => report::text(out, at, b"verdicterror"),
-        9 => report::text(out, at, b"verdicteof"),
-        10 => report::text(out, at, b"full"),
-        12 => report::text(out, at, b"badcall"),
-        31 => report::text(out, at, b"asking"),
-        32 => report::text(out, at, b"paused"),
-        _ => report::text(out, at, b"kept"),
-    }
-}
-
-fn values(out: &mut [u8], at: usize, told: Told) -> usize {
-    if told.values < 1 {
-        return at;
-    }
-    let at = spaced(out, at, told.first);
-    if told.values < 2 {
-        return at;
-    }
-    let at = spaced(out, at, told.second);
-    if told.values < 3 {
-        return at;
-    }
-    spaced(out, at, told.third)
-}
-
-fn counts(out: &mut [u8], at: usize, told: Told) -> usize {
-    if told.counted {
-        let at = spaced(out, at, told.steps);
-        return spaced(out, at, told.events);
-    }
-    at
-}
-
-fn spaced(out: &mut [u8], at: usize, number: usize) -> usize {
-    let at = report::text(out, at, b" ");
-    report::number(out, at, number as u64)
-}
-
-// A line for each of the first `count` events. What does not fit in the buffer any more is written out first.
-fn event_lines(words: &[u32], count: usize, out: &mut [u8], from: usize) -> usize
-    requires { ⌜ from ≤ length (now out) ⌝ }
-    ensures { λ r. ⌜ r ≤ length (now (out .exit)) ⌝ }
-{
-    let mut used = from;
-    let mut left = count;
-    let mut at = 0;
-    while at + 1 < words.len() {
-        if left == 0 {
-            return used;
-        }
-        let free = make_room(out, used);
-        used = event_line(out, free, words[at], words[at + 1]);
-        left = left - 1;
-        at += 2;
-    }
-    used
-}
-
-// The place to go on at, with room for a line: the buffer is written out where it is nearly full.
-fn make_room(out: &[u8], used: usize) -> usize
-    requires { ⌜ used ≤ length (now out) ⌝ }
-    ensures { λ r. ⌜ r ≤ length (now (out .entry)) ⌝ }
-{
-    if LINE_ROOM <= out.len() - used {
-        return used;
-    }
-    io::write_all(STDOUT_FILENO, &out[0..used]);
-    0
-}
-
-fn event_line(out: &mut [u8], at: usize, word: u32, offset: u32) -> usize
-    ensures { λ r. ⌜ r ≤ length (now (out .exit)) ⌝ }
-{
-    let at = enter_or_exit(out, at, word);
-    let at = report::kind_name(out, at, kind_of(word));
-    let at = report::text(out, at, b" ");
-    let at = report::number(out, at, offset as u64);
-    report::text(out, at, b"\n")
-}
-
-fn enter_or_exit(out: &mut [u8], at: usize, word: u32) -> usize {
-    if word % 2 == 0 {
-        report::text(out, at, b"enter ")
-    } else {
-        report::text(out, at, b"exit ")
-    }
-}
-
-// The kind in an event's first word; 0, which is none, of a word that is no event's.
-fn kind_of(word: u32) -> u8 {
-    if 511 < word {
-        return 0;
-    }
-    (word / 2) as u8
 }
