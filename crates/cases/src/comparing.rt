@@ -1,29 +1,20 @@
 // An answer that is recorded on a line, against the program's own.
 //
 // A place of 0 says that something differed before it; no recorded answer begins there.
-use crate::running::Outcome;
-use crate::writing::answer_text;
-use crate::writing::event_mark;
-ghost use Prim.Native.Nat.{_≤_};
-ghost use lib.ListN.{length};
+use report::Told;
 
 // The number of the answer Nok.
 const NOK: u8 = 1;
 
-// Whether the parts that are recorded from a place on are those of the outcome. At Nok an empty list of events says nothing,
-// since the crate takes its events back there.
-pub fn agrees(
-    line: &[u8],
-    from: usize,
-    outcome: Outcome,
-    page: &[u8],
-    words: &[u32],
-    piece: &mut [u8],
-) -> bool {
-    let told = outcome.told;
-    let count = answer_text(piece, outcome, page);
-    let at = eat(line, from, &piece[0..count]);
-    let at = eat_steps(line, at, told.steps, piece);
+// Room for the text of one event or number.
+const PIECE_ROOM: usize = 256;
+
+// Whether the parts that are recorded from a place on are those of the answer. At Nok an empty list of events says nothing, since
+// the crate takes its events back there.
+pub fn agrees(line: &[u8], from: usize, told: Told, answer: &[u8], words: &[u32]) -> bool {
+    let mut piece = [0u8; PIECE_ROOM];
+    let at = eat(line, from, answer);
+    let at = eat_steps(line, at, told.steps, &mut piece);
     let at = eat(line, at, b" | events");
     if at == 0 {
         return false;
@@ -33,7 +24,7 @@ pub fn agrees(
             return true;
         }
     }
-    eat_events(line, at, words, told.events, piece) == line.len()
+    eat_events(line, at, words, told.events, &mut piece) == line.len()
 }
 
 // The place past the word, if the word stands at this place.
@@ -56,11 +47,11 @@ fn eat(line: &[u8], from: usize, word: &[u8]) -> usize {
 
 // The steps need not be recorded.
 fn eat_steps(line: &[u8], from: usize, steps: usize, piece: &mut [u8]) -> usize {
-    let at = eat(line, from, b" | steps ");
+    let at = eat(line, from, b" | steps");
     if at == 0 {
         return from;
     }
-    let count = report::number(piece, 0, steps as u64);
+    let count = report::spaced(piece, 0, steps);
     eat(line, at, &piece[0..count])
 }
 
@@ -72,7 +63,7 @@ fn eat_events(line: &[u8], from: usize, words: &[u32], count: usize, piece: &mut
         if left == 0 {
             return place;
         }
-        let end = event_mark(piece, 0, words[at], words[at + 1]);
+        let end = report::event_mark(piece, 0, words[at], words[at + 1]);
         place = eat(line, place, &piece[0..end]);
         left = left - 1;
         at += 2;

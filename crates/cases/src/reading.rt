@@ -1,7 +1,10 @@
 // A case as it stands on a line, its page in hex and its verdicts in a comma list.
-use base::Verdict;
 use text::Hex;
+use text::Letters;
 use text::Parsed;
+use text::ReadLetters;
+use text::ReadNumber;
+use text::ReadVerdict;
 ghost use Prim.Native.Nat.{_≤_};
 
 pub struct Case {
@@ -23,50 +26,28 @@ pub enum ReadCase {
     Bad,
 }
 
-pub enum ReadVerdict {
-    Good(Verdict),
-    Bad,
-}
-
 // The longest page.
 const LONGEST: usize = 60_000;
 
 // More steps than a run over the longest page takes.
 const ALLOWANCE: usize = 480_016;
 
-// What a letter that is none of those listed stands for.
-const NONE: u8 = 255;
-
-// The place of the first letter, and of what follows the four letters.
+// The place of what follows the four letters.
 const AFTER_LETTERS: usize = 8;
 
 // The case on a line; its page goes to the lent space.
 pub fn read_case(line: &[u8], space: &mut [u8]) -> ReadCase {
-    let construct = construct_of(letter(line, 0));
-    if construct == NONE {
-        return ReadCase::Bad;
+    match text::read_letters(line, 0) {
+        ReadLetters::Asked(letters) => read_start(line, new_case(letters), space),
+        ReadLetters::NoLetters => ReadCase::Bad,
     }
-    let kind = choice(letter(line, 2), b'f', b't');
-    if kind == NONE {
-        return ReadCase::Bad;
-    }
-    let mode = choice(letter(line, 4), b'c', b'v');
-    if mode == NONE {
-        return ReadCase::Bad;
-    }
-    let interrupt = choice(letter(line, 6), b'0', b'1');
-    if interrupt == NONE {
-        return ReadCase::Bad;
-    }
-    let case = new_case(construct, kind, flags_of(mode, interrupt));
-    read_start(line, case, space)
 }
 
-fn new_case(construct: u8, kind: u8, flags: u8) -> Case {
+fn new_case(letters: Letters) -> Case {
     Case {
-        construct,
-        kind,
-        flags,
+        construct: letters.construct,
+        kind: letters.kind,
+        flags: letters.flags,
         start: 0,
         length: 0,
         verdicts: 0,
@@ -76,68 +57,20 @@ fn new_case(construct: u8, kind: u8, flags: u8) -> Case {
     }
 }
 
-// The letter at a place, if a space follows it; else 0.
-fn letter(line: &[u8], at: usize) -> u8 {
-    if line.len() <= at {
-        return 0;
-    }
-    if line.len() - at < 2 {
-        return 0;
-    }
-    if line[at + 1] != b' ' {
-        return 0;
-    }
-    line[at]
-}
-
-fn construct_of(letter: u8) -> u8 {
-    match letter {
-        b'e' => machine::EXPRESSION,
-        b't' => machine::TAG,
-        b's' => machine::ESM,
-        _ => NONE,
-    }
-}
-
-fn choice(letter: u8, zero: u8, one: u8) -> u8 {
-    if letter == zero {
-        return 0;
-    }
-    if letter == one {
-        return 1;
-    }
-    NONE
-}
-
-// 1 says that a verdict source is at hand, 2 that the construct would interrupt another.
-fn flags_of(mode: u8, interrupt: u8) -> u8 {
-    if interrupt == 0 {
-        return mode;
-    }
-    if mode == 0 { 2 } else { 3 }
-}
-
 fn read_start(line: &[u8], case: Case, space: &mut [u8]) -> ReadCase {
-    let end = text::find(line, AFTER_LETTERS, b' ');
-    match text::decimal(line, AFTER_LETTERS, end) {
-        Parsed::Number(start) => {
+    match text::read_number(line, AFTER_LETTERS) {
+        ReadNumber::Field { number, next } => {
             let mut c = case;
-            c.start = start as usize;
-            read_page(line, end + 1, c, space)
+            c.start = number;
+            read_page(line, next, c, space)
         }
-        Parsed::Bad => ReadCase::Bad,
+        ReadNumber::NoField => ReadCase::Bad,
     }
 }
 
 fn read_page(line: &[u8], from: usize, case: Case, space: &mut [u8]) -> ReadCase {
     let end = text::find(line, from, b' ');
-    if text::is_word(line, from, end, b"-") {
-        return read_verdicts(line, end + 1, case);
-    }
-    if end <= from {
-        return ReadCase::Bad;
-    }
-    match text::decode_hex(line, from, end, space) {
+    match text::read_bytes(line, from, end, space) {
         Hex::Decoded(count) => {
             if LONGEST < count {
                 return ReadCase::Bad;
@@ -172,7 +105,7 @@ fn all_verdicts(line: &[u8], from: usize, to: usize) -> bool {
     let mut at = from;
     while at < to {
         let end = item_end(line, at, to);
-        if is_bad(verdict_at(line, at, end)) {
+        if is_none(text::read_verdict(line, at, end)) {
             return false;
         }
         if end == to {
@@ -197,82 +130,25 @@ pub fn item_end(line: &[u8], at: usize, to: usize) -> usize
     comma
 }
 
-fn is_bad(read: ReadVerdict) -> bool {
+fn is_none(read: ReadVerdict) -> bool {
     match read {
-        ReadVerdict::Good(_) => false,
-        ReadVerdict::Bad => true,
+        ReadVerdict::Heard(_) => false,
+        ReadVerdict::NoVerdict => true,
     }
-}
-
-// `o`, `u` and a number, or `e`, a number, `@` and an offset in the body.
-pub fn verdict_at(line: &[u8], from: usize, to: usize) -> ReadVerdict {
-    if to <= from {
-        return ReadVerdict::Bad;
-    }
-    if line.len() < to {
-        return ReadVerdict::Bad;
-    }
-    match line[from] {
-        b'o' => fine(to - from),
-        b'u' => unfinished(text::decimal(line, from + 1, to)),
-        b'e' => wrong(line, from + 1, to),
-        _ => ReadVerdict::Bad,
-    }
-}
-
-fn fine(length: usize) -> ReadVerdict {
-    if length == 1 {
-        return ReadVerdict::Good(Verdict::Fine);
-    }
-    ReadVerdict::Bad
-}
-
-fn unfinished(read: Parsed) -> ReadVerdict {
-    match read {
-        Parsed::Number(number) => ReadVerdict::Good(Verdict::Unfinished(narrow(number))),
-        Parsed::Bad => ReadVerdict::Bad,
-    }
-}
-
-fn wrong(line: &[u8], from: usize, to: usize) -> ReadVerdict {
-    let mark = text::find(line, from, b'@');
-    match text::decimal(line, from, mark) {
-        Parsed::Number(number) => wrong_at(number, text::decimal(line, mark + 1, to)),
-        Parsed::Bad => ReadVerdict::Bad,
-    }
-}
-
-fn wrong_at(number: u64, read: Parsed) -> ReadVerdict {
-    match read {
-        Parsed::Number(offset) => ReadVerdict::Good(Verdict::Wrong(
-            narrow(number),
-            offset as usize,
-        )),
-        Parsed::Bad => ReadVerdict::Bad,
-    }
-}
-
-// A number past the largest of a verdict becomes 0, which no verdict has either.
-fn narrow(number: u64) -> u32 {
-    if 65_535 < number {
-        return 0;
-    }
-    number as u32
 }
 
 fn read_room(line: &[u8], from: usize, case: Case) -> ReadCase {
-    let end = text::find(line, from, b' ');
     let mark = text::find(line, from, b'=');
     if !text::is_word(line, from, mark, b"room") {
         return read_allowance(line, from, case);
     }
-    match text::decimal(line, mark + 1, end) {
-        Parsed::Number(room) => {
+    match text::read_number(line, mark + 1) {
+        ReadNumber::Field { number, next } => {
             let mut c = case;
-            c.room = room as usize;
-            read_allowance(line, end + 1, c)
+            c.room = number;
+            read_allowance(line, next, c)
         }
-        Parsed::Bad => ReadCase::Bad,
+        ReadNumber::NoField => ReadCase::Bad,
     }
 }
 

@@ -1,8 +1,7 @@
-// A case run to its end, or to a question past the end of its list of verdicts.
+// A case run to its end, or to a question past the end of its list of verdicts; and its answer as text.
+use crate::body::put_body;
 use crate::reading::Case;
-use crate::reading::ReadVerdict;
 use crate::reading::item_end;
-use crate::reading::verdict_at;
 use base::Verdict;
 use report::Told;
 use report::tell;
@@ -10,17 +9,20 @@ use scan::Answer;
 use scan::Began;
 use scan::Ran;
 use scan::Scan;
+use text::ReadVerdict;
+ghost use Prim.Native.Nat.{_≤_};
+ghost use lib.ListN.{length};
 
 // More calls than a case takes: one for each step of the longest page, and one for each verdict.
 const CALLS: usize = 1_000_000;
 
+// The number of the answer Asking.
+const ASKING: u8 = 31;
+
+// The answer taken apart, and the length of its text, which stands at the start of a lent buffer.
 pub struct Outcome {
     pub told: Told,
-    // Where the body that the scan asks about begins, and where it ends.
-    pub body: usize,
-    pub body_end: usize,
-    // How long the line prefixes are that are no part of it.
-    pub prefix: u8,
+    pub length: usize,
 }
 
 // What a call has come to, and the verdicts that are left.
@@ -30,7 +32,17 @@ struct Turn {
     at: usize,
 }
 
-pub fn run_case(line: &[u8], case: Case, page: &[u8], words: &mut [u32]) -> Outcome {
+// The text of the answer, with the body where the scan asks, goes to the piece.
+pub fn run_case(
+    line: &[u8],
+    case: Case,
+    page: &[u8],
+    words: &mut [u32],
+    scratch: &mut [u8],
+    piece: &mut [u8],
+) -> Outcome
+    ensures { λ r. ⌜ r .length ≤ length (now (piece .exit)) ⌝ }
+{
     let began = Scan::new(
         page,
         0,
@@ -42,41 +54,35 @@ pub fn run_case(line: &[u8], case: Case, page: &[u8], words: &mut [u32]) -> Outc
         words.len(),
     );
     match began {
-        Began::Started(scan) => came_to(run_on(line, case, scan, page, words)),
-        Began::Refused(answer) => Outcome {
-            told: tell(answer),
-            body: 0,
-            body_end: 0,
-            prefix: 0,
-        },
+        Began::Started(scan) => {
+            let ran = run_on(line, case, scan, page, words);
+            outcome_of(ran, page, scratch, piece)
+        }
+        Began::Refused(answer) => told_outcome(tell(answer), piece),
     }
 }
 
-fn came_to(ran: Ran) -> Outcome {
+fn told_outcome(told: Told, piece: &mut [u8]) -> Outcome
+    ensures { λ r. ⌜ r .length ≤ length (now (piece .exit)) ⌝ }
+{
+    let length = report::answer_text(piece, 0, told);
+    Outcome { told, length }
+}
+
+fn outcome_of(ran: Ran, page: &[u8], scratch: &mut [u8], piece: &mut [u8]) -> Outcome
+    ensures { λ r. ⌜ r .length ≤ length (now (piece .exit)) ⌝ }
+{
     let answer = ran.answer;
-    let tokenizer = ran.scan.tokenizer;
-    let job = tokenizer.job;
-    let regs = tokenizer.regs;
-    Outcome {
-        told: tell(answer),
-        body: body_start(job.construct, job.start, regs.body),
-        body_end: tokenizer.at,
-        prefix: longest_prefix(job.construct),
+    let told = tell(answer);
+    let plain = told_outcome(told, piece);
+    if told.number != ASKING {
+        return plain;
     }
-}
-
-// At most two tabs or spaces after a line ending are a line prefix; an ESM block drops nothing.
-fn longest_prefix(construct: u8) -> u8 {
-    if construct == machine::ESM { 0 } else { 2 }
-}
-
-// An ESM block is its own body.
-fn body_start(construct: u8, start: usize, body: usize) -> usize {
-    if construct == machine::ESM {
-        start
-    } else {
-        body
-    }
+    let scan = ran.scan;
+    let at = report::text(piece, plain.length, b" ");
+    let at = put_body(scan, page, scratch, piece, at);
+    let length = report::text(piece, at, b"");
+    Outcome { told, length }
 }
 
 fn run_on(line: &[u8], case: Case, scan: Scan, page: &[u8], words: &mut [u32]) -> Ran {
@@ -135,7 +141,7 @@ fn answered(line: &[u8], at: usize, to: usize, ran: Ran) -> Turn {
         };
     }
     let end = item_end(line, at, to);
-    let told = ran.scan.give(heard(verdict_at(line, at, end)));
+    let told = ran.scan.give(heard(text::read_verdict(line, at, end)));
     let answer = told.answer;
     Turn {
         ran: told,
@@ -144,11 +150,11 @@ fn answered(line: &[u8], at: usize, to: usize, ran: Ran) -> Turn {
     }
 }
 
-// The list was read before, so every item of it is good.
+// The list was read before, so every item of it is a verdict.
 fn heard(read: ReadVerdict) -> Verdict {
     match read {
-        ReadVerdict::Good(verdict) => verdict,
-        ReadVerdict::Bad => Verdict::Unfinished(0),
+        ReadVerdict::Heard(verdict) => verdict,
+        ReadVerdict::NoVerdict => Verdict::Unfinished(0),
     }
 }
 

@@ -4,11 +4,14 @@ use mathlib.Core.Bool.{Bool, true, _&&_}
 use mathlib.Core.List.{List, [], _∷_}
 use lib.Dec.{eqb, ltb}
 use lib.ListN.{length}
-use Rattle.base.specs.Byte.{digit0, digit9}
+use Rattle.base.specs.Byte.{digit0, digit9, space}
 use Rattle.base.specs.If.{if_then_else_}
 use Rattle.base.specs.Range.{within}
 use Rattle.text.specs.declared.numbers.Parsed.{Parsed}
 use Rattle.text.specs.declared.numbers.Parsed.the-variants.{Number, Bad}
+use Rattle.text.specs.declared.numbers.ReadNumber.{ReadNumber}
+use Rattle.text.specs.declared.numbers.ReadNumber.the-variants.{Field, NoField}
+use Rattle.text.specs.Find.{findFrom}
 use Rattle.text.specs.Part.{part, lies}
 
 abbrev pub largest : ℕ
@@ -35,3 +38,11 @@ numberOf s =
 
 abbrev pub decimalOf : List ℕ → ℕ → ℕ → Parsed
 decimalOf line from to = if lies line from to then numberOf (part line from to) else Bad
+
+unfoldable pub fieldBy : Parsed → ℕ → ReadNumber
+fieldBy (Number n) next = Field n next
+fieldBy Bad next = NoField
+
+-- the field up to the next space, or up to the line's end
+abbrev pub fieldOf : List ℕ → ℕ → ReadNumber
+fieldOf line from = fieldBy (decimalOf line from (findFrom line from space)) (findFrom line from space + 1)

@@ -17,11 +17,11 @@ loop-holds c = omega arith
 item-end-requires : tie.Need-item-end-requires Inv-loop μ-loop
 item-end-requires c κs = search needs
 
-verdict-at-requires : tie.Need-verdict-at-requires Inv-loop μ-loop
-verdict-at-requires c κs = search needs
+read-verdict-requires : tie.Need-read-verdict-requires Inv-loop μ-loop
+read-verdict-requires c κs = search needs
 
-is-bad-requires : tie.Need-is-bad-requires Inv-loop μ-loop
-is-bad-requires c κs = search needs
+is-none-requires : tie.Need-is-none-requires Inv-loop μ-loop
+is-none-requires c κs = search needs
 
 returns : tie.Need-returns Inv-loop μ-loop
 returns c = search needs
@@ -55,8 +55,8 @@ all-verdicts-spec =
     μ-loop
     loop-holds
     item-end-requires
-    verdict-at-requires
-    is-bad-requires
+    read-verdict-requires
+    is-none-requires
     returns
     returns-2
     add-at
