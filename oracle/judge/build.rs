@@ -10,6 +10,11 @@
 //! So the state table (`state.rs`), the resolver table (`resolve.rs`) and the
 //! module lists (`construct/mod.rs`, `util/mod.rs`) can be the given ones,
 //! unchanged, though most of the modules they name are not there.
+//!
+//! Where `TARREDLATH_VARIANT` names a wrong reading of `variants.txt`, the
+//! given file that it is about is changed on its way; nowhere else.
+
+mod variant;
 
 use std::collections::{BTreeMap, BTreeSet};
 use std::env;
@@ -20,6 +25,15 @@ use std::path::{Path, PathBuf};
 /// Where the given files are, unless `TARREDLATH_DOCS_SRC` says otherwise.
 /// Relative paths count from the project's root.
 const DEFAULT_GIVEN: &str = "../shared/docs/src";
+
+/// Modules whose states a run of the judge can call.
+const MODULES: [&str; 5] = [
+    "blank_line",
+    "mdx_esm",
+    "partial_mdx_expression",
+    "partial_mdx_jsx",
+    "partial_space_or_tab",
+];
 
 /// Given files that become part of the judge.
 const GIVEN: [&str; 17] = [
@@ -44,9 +58,12 @@ const GIVEN: [&str; 17] = [
 
 fn main() {
     let package = PathBuf::from(env::var("CARGO_MANIFEST_DIR").expect("manifest directory"));
-    let tree = PathBuf::from(env::var("OUT_DIR").expect("output directory")).join("crate");
+    let out = PathBuf::from(env::var("OUT_DIR").expect("output directory"));
+    let tree = out.join("crate");
     println!("cargo:rerun-if-env-changed=TARREDLATH_DOCS_SRC");
+    println!("cargo:rerun-if-env-changed=TARREDLATH_VARIANT");
     println!("cargo:rerun-if-changed=build.rs");
+    println!("cargo:rerun-if-changed=variant.rs");
     println!("cargo:rerun-if-changed=stand-ins");
 
     let root = package.join("../..");
@@ -57,7 +74,45 @@ fn main() {
         fs::remove_dir_all(&tree).expect("remove the older assembly");
     }
 
-    let mut present = BTreeSet::new();
+    let mut present = put_given(&given, &tree, &variant_edits(&package));
+
+    let stand_ins = package.join("stand-ins");
+    for path in files_below(&stand_ins) {
+        let bytes = fs::read(stand_ins.join(&path)).expect("read a stand-in");
+        put(&tree, &path, &bytes);
+        assert!(present.insert(path), "a given file can't have a stand-in");
+    }
+    put_absent(&tree, &present);
+    put(&out, "states.rs", state_list(&tree).as_bytes());
+}
+
+/// Put what the given lists and tables name, and isn't there.
+fn put_absent(tree: &Path, present: &BTreeSet<String>) {
+    let absent = absent_functions(tree);
+    for directory in ["construct", "util"] {
+        for module in declared_modules(&read(&tree.join(directory).join("mod.rs"))) {
+            let path = format!("{directory}/{module}.rs");
+            if !present.contains(&path) {
+                let functions = absent.get(&module).map_or("", String::as_str);
+                put(tree, &path, functions.as_bytes());
+            }
+        }
+    }
+}
+
+/// The edits of the wrong reading that was asked for, if one was.
+fn variant_edits(package: &Path) -> Vec<variant::Edit> {
+    let Ok(name) = env::var("TARREDLATH_VARIANT") else {
+        return vec![];
+    };
+    let list = package.join("../variants.txt");
+    println!("cargo:rerun-if-changed={}", list.display());
+    println!("cargo:rustc-env=JUDGE_VARIANT={name}");
+    variant::edits(&read(&list), &name)
+}
+
+/// Put the given files into the tree, byte for byte but for the edits.
+fn put_given(given: &Path, tree: &Path, edits: &[variant::Edit]) -> BTreeSet<String> {
     for path in GIVEN {
         let file = given.join(given_name(path));
         println!("cargo:rerun-if-changed={}", file.display());
@@ -67,32 +122,35 @@ fn main() {
                 file.display()
             )
         });
-        put(&tree, path, &bytes);
-        present.insert(path.to_string());
+        put(tree, path, &bytes);
     }
-
-    for path in files_below(&package.join("stand-ins")) {
+    for edit in edits {
         assert!(
-            present.insert(path.clone()),
-            "{path} is given: it can't have a stand-in"
+            GIVEN.contains(&edit.file.as_str()),
+            "`{}` is not given: a wrong reading is one of the crate",
+            edit.file
         );
-        put(
-            &tree,
-            &path,
-            &fs::read(package.join("stand-ins").join(&path)).expect("read a stand-in"),
-        );
+        let changed = edit.apply(&read(&tree.join(&edit.file)));
+        put(tree, &edit.file, changed.as_bytes());
     }
+    GIVEN.map(String::from).into()
+}
 
-    let absent = absent_functions(&tree);
-    for directory in ["construct", "util"] {
-        for module in declared_modules(&read(&tree.join(directory).join("mod.rs"))) {
-            let path = format!("{directory}/{module}.rs");
-            if !present.contains(&path) {
-                let functions = absent.get(&module).map_or("", String::as_str);
-                put(&tree, &path, functions.as_bytes());
-            }
+/// The names of the states of `MODULES`, in the order of the state table, as
+/// the source of a list.
+fn state_list(tree: &Path) -> String {
+    let table = read(&tree.join("state.rs"));
+    let mut list =
+        String::from("/// The states that a run can call.\npub const STATES: &[&str] = &[\n");
+    for arm in table.split("Name::").skip(1) {
+        let (name, rest) = word(arm);
+        let called = rest.trim_start_matches(|d: char| d.is_whitespace() || "=>{".contains(d));
+        let module = called.strip_prefix("construct::").map(|d| word(d).0);
+        if module.is_some_and(|module| MODULES.contains(&module)) {
+            writeln!(list, "    {name:?},").expect("write to a string");
         }
     }
+    list + "];\n"
 }
 
 /// `construct/mdx_esm.rs` is given as `src--src--construct--mdx_esm.rs.txt`.

@@ -221,14 +221,7 @@ impl Judge {
 
     /// Run the crate.
     pub(crate) fn scan(&self, scan: &Scan) -> Outcome {
-        // The wrappers (left out) call the module only at its first byte.
-        let first = scan.page.get(scan.start);
-        let begins = match scan.construct {
-            Construct::Expression => first == Some(&b'{'),
-            Construct::Tag => first == Some(&b'<'),
-            Construct::Esm => true,
-        };
-        if !begins {
+        if !begins(scan) {
             return Outcome {
                 answer: Answer::Nok,
                 events: vec![],
@@ -254,27 +247,41 @@ impl Judge {
         };
         let mut tokenizer = Tokenizer::new(point_at(&parse_state, scan.start), &parse_state);
         let message = run(&mut tokenizer, scan);
+        outcome(&tokenizer, &message, self.source.take())
+    }
+}
 
-        let source = self.source.take();
-        if source.pointed_past {
-            return Outcome::outside("a verdict points past its body");
-        }
-        if tokenizer.events.iter().any(|event| event.point.vs > 0) {
-            return Outcome::outside("an event lies inside a tab");
-        }
-        Outcome {
-            answer: reading::answer(&message, tokenizer.point.index, source.bodies.last()),
-            events: tokenizer
-                .events
-                .iter()
-                .map(|event| Mark {
-                    exit: event.kind == EventKind::Exit,
-                    name: event.name.clone() as usize,
-                    offset: event.point.index,
-                })
-                .collect(),
-            bodies: source.bodies,
-        }
+/// Whether the construct's first byte is there. The wrappers (left out) call
+/// the module only at that byte.
+fn begins(scan: &Scan) -> bool {
+    let first = scan.page.get(scan.start);
+    match scan.construct {
+        Construct::Expression => first == Some(&b'{'),
+        Construct::Tag => first == Some(&b'<'),
+        Construct::Esm => true,
+    }
+}
+
+/// What a run came to that a message stopped.
+fn outcome(tokenizer: &Tokenizer, message: &Message, source: Source) -> Outcome {
+    if source.pointed_past {
+        return Outcome::outside("a verdict points past its body");
+    }
+    if tokenizer.events.iter().any(|event| event.point.vs > 0) {
+        return Outcome::outside("an event lies inside a tab");
+    }
+    Outcome {
+        answer: reading::answer(message, tokenizer.point.index, source.bodies.last()),
+        events: tokenizer
+            .events
+            .iter()
+            .map(|event| Mark {
+                exit: event.kind == EventKind::Exit,
+                name: event.name.clone() as usize,
+                offset: event.point.index,
+            })
+            .collect(),
+        bodies: source.bodies,
     }
 }
 

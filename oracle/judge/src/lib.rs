@@ -6,8 +6,15 @@
 
 include!(concat!(env!("OUT_DIR"), "/crate/modules.rs"));
 
+#[cfg(feature = "log")]
+mod calls;
 mod domain;
 mod door;
 mod reading;
 
+#[cfg(feature = "log")]
+pub use calls::{Call, STATES};
 pub use door::{Answer, Construct, Judge, Kind, Mark, Outcome, Scan, Verdict};
+
+/// The wrong reading that this judge was built with, if it was.
+pub const VARIANT: Option<&str> = option_env!("JUDGE_VARIANT");

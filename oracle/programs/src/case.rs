@@ -40,41 +40,22 @@ impl Case {
     /// Read a line.
     pub fn parse(line: &str) -> Option<Case> {
         let mut fields = line.split(' ');
-        let construct = match fields.next()? {
-            "e" => Construct::Expression,
-            "t" => Construct::Tag,
-            "s" => Construct::Esm,
-            _ => return None,
-        };
-        let kind = match fields.next()? {
-            "f" => Kind::Flow,
-            "t" => Kind::Text,
-            _ => return None,
-        };
-        let asks = match fields.next()? {
-            "c" => false,
-            "v" => true,
-            _ => return None,
-        };
-        let interrupt = match fields.next()? {
-            "0" => false,
-            "1" => true,
-            _ => return None,
-        };
-        let start = decimal(fields.next()?)?;
-        let page = from_hex(fields.next()?)?;
-        let verdicts = match fields.next()? {
-            "-" => vec![],
-            list => list.split(',').map(verdict).collect::<Option<_>>()?,
-        };
         let mut case = Case {
-            construct,
-            kind,
-            asks,
-            interrupt,
-            start,
-            page,
-            verdicts,
+            construct: match fields.next()? {
+                "e" => Construct::Expression,
+                "t" => Construct::Tag,
+                "s" => Construct::Esm,
+                _ => return None,
+            },
+            kind: *one_of(fields.next()?, ["f", "t"], &[Kind::Flow, Kind::Text])?,
+            asks: *one_of(fields.next()?, ["c", "v"], &[false, true])?,
+            interrupt: *one_of(fields.next()?, ["0", "1"], &[false, true])?,
+            start: decimal(fields.next()?)?,
+            page: from_hex(fields.next()?)?,
+            verdicts: match fields.next()? {
+                "-" => vec![],
+                list => list.split(',').map(verdict).collect::<Option<_>>()?,
+            },
             room: None,
             allowance: None,
         };
@@ -111,15 +92,7 @@ impl Case {
             if index > 0 {
                 line.push(',');
             }
-            match verdict {
-                Verdict::Ok => line.push('o'),
-                Verdict::Unfinished { number } => {
-                    write!(line, "u{number}").expect("write to a string");
-                }
-                Verdict::Error { number, offset } => {
-                    write!(line, "e{number}@{offset}").expect("write to a string");
-                }
-            }
+            push_verdict(&mut line, verdict);
         }
         if self.verdicts.is_empty() {
             line.push('-');
@@ -144,7 +117,12 @@ impl Case {
                 bodies: vec![],
             };
         }
-        judge.judge(&Scan {
+        judge.judge(&self.scan())
+    }
+
+    /// The scan that it asks for.
+    pub fn scan(&self) -> Scan<'_> {
+        Scan {
             construct: self.construct,
             kind: self.kind,
             asks: self.asks,
@@ -152,7 +130,7 @@ impl Case {
             start: self.start,
             page: &self.page,
             verdicts: &self.verdicts,
-        })
+        }
     }
 }
 
@@ -179,6 +157,20 @@ pub fn push_outcome(line: &mut String, judge: &Judge, outcome: &Outcome) {
         line.push_str(judge.label(event));
         write!(line, "@{}", event.offset).expect("write to a string");
     }
+}
+
+fn push_verdict(line: &mut String, verdict: &Verdict) {
+    match verdict {
+        Verdict::Ok => write!(line, "o"),
+        Verdict::Unfinished { number } => write!(line, "u{number}"),
+        Verdict::Error { number, offset } => write!(line, "e{number}@{offset}"),
+    }
+    .expect("write to a string");
+}
+
+/// What the word stands for, if it is one of two.
+fn one_of<'a, T>(word: &str, words: [&str; 2], things: &'a [T; 2]) -> Option<&'a T> {
+    things.get(words.iter().position(|d| *d == word)?)
 }
 
 /// A decimal number: digits only.

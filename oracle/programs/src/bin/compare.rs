@@ -17,6 +17,13 @@ use std::process::ExitCode;
 /// Differences shown in full, unless `--show N` says otherwise.
 const SHOWN: u64 = 20;
 
+const USAGE: &str = "\
+usage: compare [--show N] [--digest] ORACLE OURS   (files, or - for standard input)
+
+  --show N  differences shown in full (20)
+  --digest  none in full, but the first and the smallest in a line each
+";
+
 /// A line taken apart.
 #[derive(Debug, PartialEq)]
 struct Line<'a> {
@@ -32,47 +39,58 @@ struct Counts {
     with_events: u64,
     outside: u64,
     differ: u64,
+    /// The first difference, and the one with the shortest case.
+    first: Option<String>,
+    smallest: Option<(usize, String)>,
 }
 
 fn main() -> ExitCode {
     let mut shown = SHOWN;
+    let mut digest = false;
     let mut paths = vec![];
     let mut arguments = std::env::args().skip(1);
     while let Some(argument) = arguments.next() {
-        if argument == "--show" {
-            match arguments.next().and_then(|d| d.parse().ok()) {
+        match argument.as_str() {
+            "--digest" => digest = true,
+            "--show" => match arguments.next().and_then(|d| d.parse().ok()) {
                 Some(number) => shown = number,
                 None => return usage(),
-            }
-        } else {
-            paths.push(argument);
+            },
+            _ => paths.push(argument),
         }
     }
     let [oracle, ours] = paths.as_slice() else {
         return usage();
     };
 
-    match compare(oracle, ours, shown) {
+    match compare(oracle, ours, if digest { 0 } else { shown }) {
         Err(problem) => {
             eprintln!("compare: {problem}");
             ExitCode::from(2)
         }
         Ok(counts) => {
-            println!(
-                "{} cases, {} compared ({} with their events), {} outside the domain, {} differ",
-                counts.cases, counts.compared, counts.with_events, counts.outside, counts.differ
-            );
-            if counts.differ > 0 {
-                ExitCode::FAILURE
-            } else {
-                ExitCode::SUCCESS
-            }
+            say(&counts, digest);
+            ExitCode::from(u8::from(counts.differ > 0))
         }
     }
 }
 
+fn say(counts: &Counts, digest: bool) {
+    if digest {
+        println!("first: {}", counts.first.as_deref().unwrap_or("none"));
+        let smallest = counts.smallest.as_ref().map(|d| d.1.as_str());
+        println!("smallest: {}", smallest.unwrap_or("none"));
+    }
+    let alone = counts.compared - counts.with_events;
+    println!(
+        "{} cases: {} compared with their events, {alone} in the answer alone, \
+         {} outside the domain, {} differ",
+        counts.cases, counts.with_events, counts.outside, counts.differ
+    );
+}
+
 fn usage() -> ExitCode {
-    eprintln!("usage: compare [--show N] ORACLE OURS   (files, or - for standard input)");
+    eprint!("{USAGE}");
     ExitCode::from(2)
 }
 
@@ -98,12 +116,29 @@ fn compare(oracle: &str, ours: &str, shown: u64) -> io::Result<Counts> {
         };
         if let Some(why) = why {
             counts.differ += 1;
+            remember(&mut counts, why, &expected, &actual);
             if counts.differ <= shown {
                 println!("DIFFERS line {}: {why}", counts.cases);
                 println!("  oracle: {expected}");
                 println!("  ours:   {actual}");
             }
         }
+    }
+}
+
+/// Keep a difference, if it is the first or smaller than those before.
+fn remember(counts: &mut Counts, why: &str, expected: &str, actual: &str) {
+    let case = expected.split(" => ").next().unwrap_or_default();
+    let smaller = counts.smallest.as_ref().is_none_or(|d| case.len() < d.0);
+    if smaller {
+        let answer = |line| take_apart(line).map_or("none", |d| d.answer);
+        let words = format!(
+            "{case} ({why}: oracle {}, ours {})",
+            answer(expected),
+            answer(actual)
+        );
+        counts.first.get_or_insert(words.clone());
+        counts.smallest = Some((case.len(), words));
     }
 }
 

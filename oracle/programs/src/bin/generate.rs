@@ -24,6 +24,7 @@ options:
   --count N    how many cases each of `valid` and `broken` draws (100000)
   --longest N  their longest construct, about, in bytes (4096)
   --depth N    letters after the beginning in `tags`, `expressions`, `esm` (5)
+  --every N    write one of N cases, and pass over the others (1)
   --allowances have each case run in pieces (`allowance=`, by chance)
 ";
 
@@ -44,6 +45,7 @@ struct Options {
     count: usize,
     longest: usize,
     depth: usize,
+    every: u64,
     allowances: bool,
     sets: Vec<String>,
 }
@@ -70,6 +72,7 @@ fn options() -> Option<Options> {
         count: 100_000,
         longest: 4096,
         depth: 5,
+        every: 1,
         allowances: false,
         sets: vec![],
     };
@@ -80,19 +83,21 @@ fn options() -> Option<Options> {
             "--count" => options.count = arguments.next()?.parse().ok()?,
             "--longest" => options.longest = arguments.next()?.parse().ok()?,
             "--depth" => options.depth = arguments.next()?.parse().ok()?,
+            "--every" => options.every = arguments.next()?.parse().ok()?,
             "--allowances" => options.allowances = true,
             "all" => options.sets.extend(SETS.map(String::from)),
             set if SETS.contains(&set) => options.sets.push(set.into()),
             _ => return None,
         }
     }
-    (!options.sets.is_empty()).then_some(options)
+    (!options.sets.is_empty() && options.every > 0).then_some(options)
 }
 
 fn generate(options: &Options) -> io::Result<()> {
     let output = BufWriter::with_capacity(1 << 20, io::stdout().lock());
     let mut sink = Sink::new(output, options.seed);
     sink.allowances = options.allowances;
+    sink.every = options.every;
     for set in &options.sets {
         let before = (sink.written, sink.outside);
         put(&mut sink, set, options)?;

@@ -13,6 +13,9 @@ use std::panic::{catch_unwind, AssertUnwindSafe};
 fn main() -> io::Result<()> {
     let mut input = io::stdin().lock();
     let mut output = BufWriter::with_capacity(1 << 20, io::stdout().lock());
+    if let Some(variant) = judge::VARIANT {
+        eprintln!("oracle: this is the wrong reading `{variant}`");
+    }
     let judge = Judge::new();
     let mut bytes = vec![];
     let mut line = String::new();

@@ -93,59 +93,78 @@ pub fn large<W: Write>(sink: &mut Sink<W>) -> io::Result<()> {
         }
     }
 
-    for size in [1, 2, 3, 7, 100, 999, 1000, 4096, 12_345] {
-        let many = |text: &str| text.repeat(size);
-        let lines = |text: &str| text.repeat(size.min(3000));
-        for page in [
-            format!("<{}>", many("a")),
-            format!("<{}", many("a")),
-            format!("<a.{} />", many("b")),
-            format!("<a{}>", many(".b")),
-            format!("<a:{}>", many("b")),
-            format!("<a {}>", many("b")),
-            format!("<a{}/>", lines(" b=\"c\"")),
-            format!("<a{}/>", lines(" b")),
-            format!("<a b:{}='c'>", many("d")),
-            format!("<a b=\"{}\">", many("c")),
-            format!("<a b=\"{}", many("c")),
-            format!("<a b=\"{}\">", many("é")),
-            format!("<a b='{}'>", lines("c\n  ")),
-            format!("<a{}>", many(" ")),
-            format!("<a{}>", many("\n")),
-            format!("<a{}", many("\t")),
-            format!("<a {}{}>", many("{"), many("}")),
-            format!("<a {{{}}}>", many("b")),
-            format!("</{}a{}>", many(" "), many("\n ")),
-        ] {
+    for size in [1, 2, 3, 7, 100, 999, 1000, 4096, 12_345, 29_900, 59_900] {
+        for page in tags_of(size) {
             put_large(sink, Tag, &page)?;
         }
-        for page in [
-            format!("{{{}}}", many("a")),
-            format!("{{{}", many("a")),
-            format!("{}{}", many("{"), many("}")),
-            format!("{}{}", many("{"), "}".repeat(size - 1)),
-            format!("{{{}}}", many("é")),
-            format!("{{{}}}", many("\n")),
-            format!("{{{}}}", lines("a\n  ")),
-            format!("{{{}}}", lines("\n   b")),
-            format!("{{{}}}", many(" ")),
-        ] {
+        for page in expressions_of(size) {
             put_large(sink, Expression, &page)?;
         }
-        for page in [
-            format!("import {}", many("a")),
-            format!("import {}", many("é")),
-            format!("{} a", many("import")),
-            format!("export {}", many(" ")),
-            format!("export {}\n{}\nb", lines("a\n"), many(" ")),
-            format!("export a{}", lines("\n\t b")),
-            format!("import a{}b", "\n".repeat(size.min(60))),
-            format!("import a{}b", "\n\n c".repeat(size.min(30))),
-        ] {
+        for page in esm_of(size) {
             put_large(sink, Esm, &page)?;
         }
     }
     Ok(())
+}
+
+/// Lines and attributes at most: more take long, and show nothing new.
+const PARTS: usize = 3000;
+
+fn tags_of(size: usize) -> Vec<String> {
+    let many = |text: &str| text.repeat(size);
+    let parts = |text: &str| text.repeat(size.min(PARTS));
+    vec![
+        format!("<{}>", many("a")),
+        format!("<{}", many("a")),
+        format!("<a.{} />", many("b")),
+        format!("<a{}>", many(".b")),
+        format!("<a:{}>", many("b")),
+        format!("<a {}>", many("b")),
+        format!("<a{}/>", parts(" b=\"c\"")),
+        format!("<a{}/>", parts(" b")),
+        format!("<a b:{}='c'>", many("d")),
+        format!("<a b=\"{}\">", many("c")),
+        format!("<a b=\"{}", many("c")),
+        format!("<a b=\"{}\">", many("é")),
+        format!("<a b='{}'>", parts("c\n  ")),
+        format!("<a{}>", many(" ")),
+        format!("<a{}>", many("\n")),
+        format!("<a{}", many("\t")),
+        format!("<a {}{}>", many("{"), many("}")),
+        format!("<a {{{}}}>", many("b")),
+        format!("</{}a{}>", many(" "), many("\n ")),
+    ]
+}
+
+fn expressions_of(size: usize) -> Vec<String> {
+    let many = |text: &str| text.repeat(size);
+    let parts = |text: &str| text.repeat(size.min(PARTS));
+    vec![
+        format!("{{{}}}", many("a")),
+        format!("{{{}", many("a")),
+        format!("{}{}", many("{"), many("}")),
+        format!("{}{}", many("{"), "}".repeat(size - 1)),
+        format!("{{{}}}", many("é")),
+        format!("{{{}}}", many("\n")),
+        format!("{{{}}}", parts("a\n  ")),
+        format!("{{{}}}", parts("\n   b")),
+        format!("{{{}}}", many(" ")),
+    ]
+}
+
+fn esm_of(size: usize) -> Vec<String> {
+    let many = |text: &str| text.repeat(size);
+    let parts = |text: &str| text.repeat(size.min(PARTS));
+    vec![
+        format!("import {}", many("a")),
+        format!("import {}", many("é")),
+        format!("{} a", many("import")),
+        format!("export {}", many(" ")),
+        format!("export {}\n{}\nb", parts("a\n"), many(" ")),
+        format!("export a{}", parts("\n\t b")),
+        format!("import a{}b", "\n".repeat(size.min(60))),
+        format!("import a{}b", "\n\n c".repeat(size.min(30))),
+    ]
 }
 
 /// Counting; with a source that is always Ok; and with one that is unfinished

@@ -11,7 +11,7 @@ use std::io::{self, Write};
 /// How a page begins, what it goes on with, and how much further than asked.
 type Family = (&'static str, &'static [&'static str], usize);
 
-const TAGS: [Family; 8] = [
+const TAGS: [Family; 10] = [
     (
         "<",
         &["a", "-", " ", "\n", "/", ">", ".", ":", "=", "\"", "{", "}"],
@@ -31,6 +31,9 @@ const TAGS: [Family; 8] = [
     ("<a b:c", &["\"", " ", "\n", "=", "{", "}", ">", "/"], 0),
     ("<a b=\"", &["\"", "'", " ", "\n", "\t", "é", "{", ">"], 0),
     ("<a {", &["{", "}", " ", "\n", "b", "=", ">", "/"], 0),
+    // Several expressions: what one verdict leaves behind for the next.
+    ("<a{", &["{", "}"], 3),
+    ("<a {}", &["{", "}", " b=", "c"], 0),
     ("<a.b", &[".", ":", "c", " ", "\n", "/", ">"], 0),
 ];
 

@@ -26,6 +26,10 @@ pub struct Sink<W> {
     pub chance: Chance,
     /// Whether to ask, for each case, for a run in pieces of chance length.
     pub allowances: bool,
+    /// One of how many cases to write.
+    pub every: u64,
+    /// How many cases came so far.
+    seen: u64,
     /// How many cases were written.
     pub written: u64,
     /// How many cases were left out, being outside the domain.
@@ -39,6 +43,8 @@ impl<W: Write> Sink<W> {
             judge: Judge::new(),
             chance: Chance::new(seed),
             allowances: false,
+            every: 1,
+            seen: 0,
             written: 0,
             outside: 0,
         }
@@ -54,6 +60,10 @@ impl<W: Write> Sink<W> {
     fn write(&mut self, case: &Case, outcome: Option<&Outcome>) -> io::Result<()> {
         if outcome.is_some_and(|d| matches!(d.answer, Answer::Outside { .. })) {
             self.outside += 1;
+            return Ok(());
+        }
+        self.seen += 1;
+        if !self.seen.is_multiple_of(self.every) {
             return Ok(());
         }
         self.written += 1;

@@ -1,4 +1,5 @@
-//! Every state met with every ASCII byte but 13, and several ways on.
+//! Every state met with every ASCII byte but 13, and some other characters, and
+//! several ways on.
 
 use super::{kind_for, Sink};
 use crate::case::Case;
@@ -8,7 +9,7 @@ use std::io::{self, Write};
 /// Pages after which each state of a tag meets the next byte, in the order of
 /// the Rust module.
 #[rustfmt::skip]
-const TAGS: [&str; 82] = [
+const TAGS: [&str; 84] = [
     // Start, and after `<`, with the white space that may stand there.
     "", "<", "<\u{b}", "<\u{c} ", "<\u{b}\n", "<\u{b}\n ",
     // Closing tag.
@@ -30,7 +31,7 @@ const TAGS: [&str; 82] = [
     "<a b=\"", "<a b='", "<a b=\"c", "<a b='c", "<a b=\"\n", "<a b=\"c\n", "<a b=\"c\n \t", "<a b=\"c\n\n",
     "<a b=\"\"", "<a b=\"c\" ", "<a b='c'\n",
     // Expressions.
-    "<a {", "<a{b", "<a {b\n ", "<a {b} ", "<a b={", "<a b={c\n  ", "<a b={c}",
+    "<a {", "<a{b", "<a {b\n ", "<a {}", "<a{b}", "<a {b} ", "<a b={", "<a b={c\n  ", "<a b={c}",
 ];
 
 #[rustfmt::skip]
@@ -61,6 +62,9 @@ const AFTER_ESM: [&str; 9] = [
     "", " ", " a", "\n", "\n\n", "\nb", "\n \n", " a\n\nb\n", "port a\n\t\nb",
 ];
 
+/// Characters of two, three and four bytes; white space is among them.
+const OTHERS: [&str; 4] = ["é", "\u{a0}", "日", "😀"];
+
 /// The three constructs in both modes.
 pub fn all<W: Write>(sink: &mut Sink<W>) -> io::Result<()> {
     each(sink, Construct::Tag, &TAGS, &AFTER_TAGS)?;
@@ -79,11 +83,14 @@ fn each<W: Write>(
     before: &[&str],
     after: &[&str],
 ) -> io::Result<()> {
+    let ascii = (0..128).filter(|d| *d != b'\r').map(char::from);
+    let mut letters: Vec<String> = ascii.map(String::from).collect();
+    letters.extend(OTHERS.map(String::from));
     for begin in before {
-        for byte in (0..128).filter(|d| *d != b'\r') {
+        for letter in &letters {
             for end in after {
                 for asks in [false, true] {
-                    let page = [begin.as_bytes(), &[byte], end.as_bytes()].concat();
+                    let page = [begin, letter.as_str(), end].concat();
                     let mut case = Case::new(construct, asks, page);
                     case.kind = kind_for(&case.page);
                     sink.put_all(&mut case, 2)?;
