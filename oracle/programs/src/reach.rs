@@ -58,7 +58,7 @@ fn other_words(case: &Case, judge: &Judge, outcome: &Outcome) -> Vec<String> {
     let mut others = vec![
         format!("{what}: {:?}", case.kind),
         format!("{what}: interrupt {}", case.interrupt),
-        format!("{what}: start {}", start_words(case)),
+        format!("{what}: start {} {}", case.start.min(9), start_words(case)),
         format!("{what}: verdicts {}", verdict_words(&case.verdicts)),
         format!("{where_from}: size {}", size_words(case.page.len())),
     ];
@@ -75,6 +75,13 @@ fn other_words(case: &Case, judge: &Judge, outcome: &Outcome) -> Vec<String> {
         };
         let (lines, prefixes) = (count("line-ending"), count("line-prefix"));
         others.push(format!("{what}: {lines} lines, {prefixes} prefixes"));
+        // Bodies that are no part of the page in one piece.
+        if let Some(body) = outcome.bodies.last().filter(|_| prefixes > 0) {
+            let (len, verdicts) = (body.len().min(9), verdict_words(&case.verdicts));
+            others.push(format!(
+                "{what}: {prefixes} prefixes, {lines} lines, {len} bytes, {verdicts}"
+            ));
+        }
     }
     others
 }
