@@ -1,0 +1,286 @@
+// One call after the other, on one worker.
+use crate::body::put_body;
+use crate::reading::Call;
+use crate::reading::read_call;
+use crate::replying::is_started;
+use crate::replying::put_reply;
+use base::Verdict;
+use text::Hex;
+use text::Letters;
+use worker::Done;
+use worker::Worker;
+ghost use Prim.Native.Nat.{_≤_};
+
+// The worker, how many bytes are lent, how many words its event buffer has, and how far the output's buffer is filled.
+pub struct Session {
+    pub worker: Worker,
+    pub lent: usize,
+    pub words: usize,
+    pub used: usize,
+}
+
+// The longest event buffer of a worker, in words.
+const MOST_WORDS: usize = 65_536;
+
+// The highest place of a worker.
+const LAST_PLACE: usize = 15;
+
+// A place's share of the event buffer is a sixteenth of it, in whole events of two words.
+const WORDS_OF_SIXTEEN: usize = 32;
+
+// Before the first start there is a worker that refuses every call, since no turn has 0 steps.
+pub fn fresh_session() -> Session {
+    let done = Worker::new(0, 0);
+    let worker = done.worker;
+    Session {
+        worker,
+        lent: 0,
+        words: 0,
+        used: 0,
+    }
+}
+
+fn least(a: usize, b: usize) -> usize
+    ensures { λ r. ⌜ (r ≤ a) × (r ≤ b) ⌝ }
+{
+    if a < b { a } else { b }
+}
+
+// A line that is no call, or that asks for more than the program has room for, changes nothing.
+pub fn bad_line(out: &mut [u8], session: Session) -> Session {
+    let mut next = session;
+    next.used = report::put(out, session.used, b"BadLine\n");
+    next
+}
+
+fn put_call(line: &[u8], out: &mut [u8], used: usize) -> usize {
+    let at = report::put(out, used, line);
+    report::put(out, at, b" => ")
+}
+
+// The session after a call, whose reply is written behind it.
+fn finish(line: &[u8], done: Done, events: &[u32], out: &mut [u8], session: Session) -> Session {
+    let worker = done.worker;
+    let reply = done.reply;
+    let at = put_call(line, out, session.used);
+    let at = put_reply(reply, events, out, at);
+    let used = report::put(out, at, b"\n");
+    Session {
+        worker,
+        lent: session.lent,
+        words: session.words,
+        used,
+    }
+}
+
+pub fn serve(
+    line: &[u8],
+    lent: &mut [u8],
+    events: &mut [u32],
+    scratch: &mut [u8],
+    out: &mut [u8],
+    session: Session,
+) -> Session {
+    let call = read_call(line);
+    match call {
+        Call::Lend(from) => lend(line, from, lent, out, session),
+        Call::Start { q, words } => start(line, q, words, events, out, session),
+        Call::Admit {
+            letters,
+            start,
+            at,
+            length,
+        } => admit(line, letters, start, at, length, lent, out, session),
+        Call::Body {
+            place,
+            scratch: count,
+        } => body(line, place, count, lent, scratch, out, session),
+        _ => serve_place(line, call, lent, events, out, session),
+    }
+}
+
+// The calls on pages that were admitted.
+fn serve_place(
+    line: &[u8],
+    call: Call,
+    lent: &[u8],
+    events: &mut [u32],
+    out: &mut [u8],
+    session: Session,
+) -> Session {
+    match call {
+        Call::Turn => turn(
+            line,
+            lent,
+            events,
+            session.lent,
+            session.words,
+            out,
+            session,
+        ),
+        Call::TurnOfWords(words) => turn(line, lent, events, session.lent, words, out, session),
+        Call::TurnOfLent(count) => turn(
+            line,
+            lent,
+            events,
+            least(count, session.lent),
+            session.words,
+            out,
+            session,
+        ),
+        Call::Tell { place, verdict } => tell(line, place, verdict, out, session),
+        Call::Collect(place) => collect(line, place, events, out, session),
+        _ => bad_line(out, session),
+    }
+}
+
+// The bytes stand on the line up to its end; more than there is room for are not taken.
+fn lend(line: &[u8], from: usize, lent: &mut [u8], out: &mut [u8], session: Session) -> Session {
+    match text::read_bytes(line, from, line.len(), lent) {
+        Hex::Decoded(count) => {
+            let at = put_call(line, out, session.used);
+            let mut next = session;
+            next.lent = count;
+            next.used = report::put(out, at, b"Lent\n");
+            next
+        }
+        Hex::BadHex => bad_line(out, session),
+        Hex::NoRoom => bad_line(out, session),
+    }
+}
+
+// A worker that is refused leaves the one that was there.
+fn start(
+    line: &[u8],
+    q: usize,
+    words: usize,
+    events: &mut [u32],
+    out: &mut [u8],
+    session: Session,
+) -> Session {
+    if MOST_WORDS < words {
+        return bad_line(out, session);
+    }
+    let done = Worker::new(q, words);
+    let reply = done.reply;
+    if is_started(reply) {
+        return begin(line, done, words, events, out, session);
+    }
+    let worker = session.worker;
+    finish(line, Done { worker, reply }, &[], out, session)
+}
+
+// The new worker, with an event buffer of zeros.
+fn begin(
+    line: &[u8],
+    done: Done,
+    words: usize,
+    events: &mut [u32],
+    out: &mut [u8],
+    session: Session,
+) -> Session {
+    clear(events);
+    let mut next = session;
+    next.words = words;
+    finish(line, done, &[], out, next)
+}
+
+fn clear(events: &mut [u32]) {
+    let mut i = 0;
+    while i < events.len() {
+        events[i] = 0;
+        i += 1;
+    }
+}
+
+fn admit(
+    line: &[u8],
+    letters: Letters,
+    start: usize,
+    at: usize,
+    length: usize,
+    lent: &[u8],
+    out: &mut [u8],
+    session: Session,
+) -> Session {
+    let count = least(session.lent, lent.len());
+    let worker = session.worker;
+    let done = worker.admit(
+        &lent[0..count],
+        at,
+        length,
+        start,
+        letters.construct,
+        letters.kind,
+        letters.flags,
+    );
+    finish(line, done, &[], out, session)
+}
+
+// A turn over the first `count` of the lent bytes and an event buffer of so many words. The buffer has one word more than a worker
+// may have: more words than that are all of them, which is another length than any worker's.
+fn turn(
+    line: &[u8],
+    lent: &[u8],
+    events: &mut [u32],
+    count: usize,
+    words: usize,
+    out: &mut [u8],
+    session: Session,
+) -> Session {
+    let bytes = least(count, lent.len());
+    let length = least(words, events.len());
+    let worker = session.worker;
+    let done = worker.turn(&lent[0..bytes], &mut events[0..length]);
+    finish(line, done, events, out, session)
+}
+
+fn tell(line: &[u8], place: usize, verdict: Verdict, out: &mut [u8], session: Session) -> Session {
+    let worker = session.worker;
+    let done = worker.verdict(place, verdict);
+    finish(line, done, &[], out, session)
+}
+
+// The events of the page stand in the share of its place.
+fn collect(line: &[u8], place: usize, events: &[u32], out: &mut [u8], session: Session) -> Session {
+    let from = share_start(place, session.words, events.len());
+    let worker = session.worker;
+    let done = worker.collect(place);
+    finish(line, done, &events[from..], out, session)
+}
+
+fn share_start(place: usize, words: usize, most: usize) -> usize
+    ensures { λ r. ⌜ r ≤ most ⌝ }
+{
+    let share = least(words, MOST_WORDS) / WORDS_OF_SIXTEEN * 2;
+    least(least(place, LAST_PLACE) * share, most)
+}
+
+// A body, by way of the first `count` bytes of the scratch.
+fn body(
+    line: &[u8],
+    place: usize,
+    count: usize,
+    lent: &[u8],
+    scratch: &mut [u8],
+    out: &mut [u8],
+    session: Session,
+) -> Session {
+    if scratch.len() < count {
+        return bad_line(out, session);
+    }
+    let bytes = least(session.lent, lent.len());
+    let worker = session.worker;
+    let at = put_call(line, out, session.used);
+    let at = put_body(
+        worker,
+        &lent[0..bytes],
+        place,
+        &mut scratch[0..count],
+        out,
+        at,
+    );
+    let mut next = session;
+    next.used = report::put(out, at, b"\n");
+    next
+}
