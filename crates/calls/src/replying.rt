@@ -1,4 +1,5 @@
 // A reply as text.
+use crate::body::put_body_place;
 use report::Told;
 use report::tell;
 use worker::Reply;
@@ -18,6 +19,7 @@ pub fn put_reply(reply: Reply, events: &[u32], out: &mut [u8], used: usize) -> u
         Reply::Served(place) => put_place(b"Served ", place, out, used),
         Reply::Idle => report::put(out, used, b"Idle"),
         Reply::Gave(answer) => put_collected(tell(answer), events, out, used),
+        Reply::Read(body) => put_body_place(body, out, used),
         Reply::NoPlace => put_no_place(out, used),
         Reply::Refused(answer) => put_answer(tell(answer), out, used),
     }
