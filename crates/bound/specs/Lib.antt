@@ -27,3 +27,4 @@ pub mod Given
 pub mod Fresh
 pub mod Scans
 pub mod Calls
+pub mod Depth

@@ -173,12 +173,12 @@ alone-counted page k (v ∷ vs) s h w =
     let x = within-told page r v (within-run page k s w) (h .0) in
     omega (arith, alone-counted page k vs (toldScan r v) (h .1) x, told-steps r v, run-counted page k s w)
 
-job-kept : (page : List ℕ) (k : ℕ) (s : Scan) → runScan page k s .tokenizer .job ≡ s .tokenizer .job
+pub job-kept : (page : List ℕ) (k : ℕ) (s : Scan) → runScan page k s .tokenizer .job ≡ s .tokenizer .job
 unfolding runScan stepScan moved if_then_else_
 job-kept page zero s = refl
 job-kept page (suc k) s = case _ (rests (s .tokenizer .state)) (λ e. rw e) (λ e. rw e (job-kept page k (stepScan page s)))
 
-told-job : (s : Scan) (v : Verdict) → toldScan s v .tokenizer .job ≡ s .tokenizer .job
+pub told-job : (s : Scan) (v : Verdict) → toldScan s v .tokenizer .job ≡ s .tokenizer .job
 unfolding givenScan
 told-job s v = if-is Scan (λ (r : Scan). r .tokenizer .job ≡ s .tokenizer .job) (eqb (s .tokenizer .state) asking) (givenScan s v) s (λ e. refl) (λ e. refl)
 

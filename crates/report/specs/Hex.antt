@@ -2,7 +2,7 @@
 use Prim.Native.Nat.{ℕ, _+_, _/_, _%_}
 use mathlib.Core.List.{List, [], _∷_}
 use lib.Dec.{ltb}
-use Rattle.base.specs.Byte.{digit0, smallA, hyphen}
+use Rattle.base.specs.Byte.{digit0, hyphen}
 use Rattle.base.specs.If.{if_then_else_}
 
 -- of a number below 16

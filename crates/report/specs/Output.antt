@@ -1,9 +1,6 @@
 -- A buffer on its way to standard output: it is written out, and begun again at its start, where so many bytes more do not fit.
-use Prim.Native.Nat.{ℕ, _+_, _-_, _*_, _/_, _≤_, _<_}
-use mathlib.Core.Path.{_≡_}
-use mathlib.Core.List.{List}
+use Prim.Native.Nat.{ℕ, _-_, _*_, _/_}
 use lib.Dec.{eqb, ltb}
-use lib.ListN.{length, getD}
 use Rattle.base.specs.If.{if_then_else_}
 
 -- a place past the end counts as the end

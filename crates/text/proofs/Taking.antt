@@ -1,6 +1,6 @@
 -- The two ways in which a line is taken: at a line feed, and where there is none.
 use Prim.Native.Nat.{ℕ, _≤_, _<_}
-use mathlib.Core.Path.{_≡_, sym}
+use mathlib.Core.Path.{_≡_}
 use mathlib.Core.List.{List}
 use lib.ListN.{length}
 use Rattle.base.specs.Byte.{lineFeed}

@@ -5,7 +5,6 @@ use lib.Dec.{eqb, ltb, leb}
 use lib.ListN.{length, getD}
 use Rattle.base.specs.Byte.{space, digit0, smallE}
 use Rattle.base.specs.If.{if_then_else_}
-use Rattle.text.specs.declared.letters.Letters.{Letters}
 use Rattle.text.specs.declared.letters.ReadLetters.{ReadLetters}
 use Rattle.text.specs.declared.letters.ReadLetters.the-variants.{Asked, NoLetters}
 

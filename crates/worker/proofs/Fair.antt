@@ -22,7 +22,7 @@ use Rattle.page.specs.Page.{pageOf}
 use Rattle.scan.specs.declared.Scan.{Scan}
 use Rattle.scan.specs.Scan.{stepBound, runScan, runWords}
 use Rattle.scan.specs.Call.{givable, givenScan, jobOf, freshScan}
-use Rattle.bound.specs.Scans.{Within, within-run, run-ends, within-given}
+use Rattle.bound.specs.Scans.{Within, within-run, run-ends, within-given, job-kept}
 use Rattle.bound.specs.Left.{left}
 use Rattle.worker.specs.declared.Place.{Place}
 use Rattle.worker.specs.declared.Worker.{Worker}
@@ -31,7 +31,7 @@ use Rattle.worker.specs.Ring.{after, gap, Found, seek-finds, gap-nearer,
 use Rattle.worker.specs.Worker.{Did, placeOf, freePlace, at, running, stateOf, pageIn, nextIn, shareOf, shareIn, replaced}
 use Rattle.worker.specs.Statement.{State, Page, Ask, admit, verdict, aTurn, collect, readBody, reply, next, afterCalls, placeAt, shareAt, verdictTo, turnWhile, collects, verdictsTo, turnsWhile, Uncollected, bound, bytesOf, turnsFor}
 use Rattle.worker.proofs.Shares.{share-own, share-other}
-use Rattle.worker.proofs.Single.{counted, job-kept, Reached, reached-run, reached-given}
+use Rattle.worker.proofs.Single.{counted, Reached, reached-run, reached-given}
 use Rattle.worker.proofs.Laws.{body-keeps}
 use Rattle.scan.proofs.Lengths.{run-long}
 use Rattle.worker.proofs.Views.{Good, view-admit, view-verdict, view-collect, view-turn, share-fits, share-long, stays-good}

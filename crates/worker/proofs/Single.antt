@@ -11,7 +11,6 @@ use Rattle.base.specs.If.{if_then_else_, if-yes, case}
 use Rattle.base.specs.State.{asking, rests}
 use Rattle.base.specs.declared.Verdict.{Verdict}
 use Rattle.machine.specs.Ranges.{verdictInRange}
-use Rattle.machine.specs.Moved.{moved}
 use Rattle.scan.specs.declared.Scan.{Scan}
 use Rattle.scan.specs.Scan.{stepBound, stepScan, runScan, runWords}
 use Rattle.scan.specs.Call.{givenScan}
@@ -22,11 +21,6 @@ use Rattle.bound.specs.Scans.{Within, within-step, step-counted, run-ends, with
 use Rattle.worker.specs.Statement.{wordsAlone}
 
 -- ---- what a run keeps and counts
-
-pub job-kept : (page : List ℕ) (k : ℕ) (s : Scan) → runScan page k s .tokenizer .job ≡ s .tokenizer .job
-unfolding runScan stepScan moved if_then_else_
-job-kept page zero s = refl
-job-kept page (suc k) s = case _ (rests (s .tokenizer .state)) (λ e. rw e) (λ e. rw e (job-kept page k (stepScan page s)))
 
 -- its steps: no more than it may, and all of them where it goes on
 pub record Counted (page : List ℕ) (k : ℕ) (s : Scan) : Type 0 where

@@ -37,7 +37,7 @@ use Rattle.worker.specs.Worker.{Did, did, refused, placeOf, freePlace, a
 use Rattle.worker.specs.Statement.{State, Page, Ask, admit, verdict, aTurn, collect, readBody, leftBy, next, afterCalls, placeAt, shareAt}
 use Rattle.worker.proofs.Laws.{part-fits, turn-idle, turn-served, body-keeps}
 use Rattle.worker.proofs.Shares.{length-replaced}
-use Rattle.worker.proofs.Single.{job-kept}
+use Rattle.bound.specs.Scans.{job-kept}
 
 -- ---- the views
 

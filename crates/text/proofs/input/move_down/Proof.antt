@@ -6,8 +6,6 @@ use lib.ListN.{length, length-set}
 use borrow.Author.Needs.{needs}
 use Rattle.text.proofs.input.move_down.Statement.{statement}
 use Rattle.text.proofs.input.move_down.Tie as tie
-use Rattle.text.proofs.input.move_down.Reads as reads
-use Rattle.text.proofs.input.move_down.Lts as lts
 
 abbrev Inv-loop : tie.InvT-loop
 Inv-loop buffer₀ from count i₀ buffer i = (i ≤ count) × (from + count ≤ length buffer₀) × (length buffer ≡ length buffer₀)

@@ -1,4 +1,3 @@
-use Rattle.base.specs.If.{picks}
 use Rattle.text.specs.Verdict.{wrongOf}
 use borrow.Author.Needs.{needs}
 use Rattle.text.proofs.verdicts.wrong.Statement.{statement}
