@@ -1,22 +1,22 @@
 // One line of the input after the other.
-use crate::session::Session;
-use crate::session::bad_line;
-use crate::session::fresh_session;
-use crate::session::serve;
+use crate::script::Script;
+use crate::script::bad_line;
+use crate::script::fresh_script;
+use crate::script::serve;
 use text::Input;
 use text::Line;
 
 // How far the input is used up, what the calls have come to, and whether there is more to do.
 pub struct Run {
     pub input: Input,
-    pub session: Session,
+    pub script: Script,
     pub going: bool,
 }
 
 pub fn fresh_run() -> Run {
     Run {
         input: Input::new(),
-        session: fresh_session(),
+        script: fresh_script(),
         going: true,
     }
 }
@@ -30,7 +30,7 @@ pub fn one_turn(
     out: &mut [u8],
     run: Run,
 ) -> Run {
-    let session = run.session;
+    let script = run.script;
     let taken = text::take_line(buffer, run.input);
     let from = taken.from;
     let to = taken.to;
@@ -38,37 +38,37 @@ pub fn one_turn(
     let input = taken.input;
     match line {
         Line::Whole => {
-            let session = serve(&buffer[from..to], lent, events, scratch, out, session);
-            went_on(input, session)
+            let script = serve(&buffer[from..to], lent, events, scratch, out, script);
+            went_on(input, script)
         }
-        Line::TooLong => went_on(input, bad_line(out, session)),
-        Line::Skipped => went_on(input, session),
-        Line::More => read_on(buffer, out, input, session),
-        Line::Ended => ended(out, input, session),
+        Line::TooLong => went_on(input, bad_line(out, script)),
+        Line::Skipped => went_on(input, script),
+        Line::More => read_on(buffer, out, input, script),
+        Line::Ended => ended(out, input, script),
     }
 }
 
-fn went_on(input: Input, session: Session) -> Run {
+fn went_on(input: Input, script: Script) -> Run {
     Run {
         input,
-        session,
+        script,
         going: true,
     }
 }
 
 // What is to be written is written before each read, so that someone at a terminal sees it.
-fn read_on(buffer: &mut [u8], out: &[u8], input: Input, session: Session) -> Run {
-    report::flush(out, session.used);
-    let mut next = session;
+fn read_on(buffer: &mut [u8], out: &[u8], input: Input, script: Script) -> Run {
+    report::flush(out, script.used);
+    let mut next = script;
     next.used = 0;
     went_on(text::fill(buffer, input), next)
 }
 
-fn ended(out: &[u8], input: Input, session: Session) -> Run {
-    report::flush(out, session.used);
+fn ended(out: &[u8], input: Input, script: Script) -> Run {
+    report::flush(out, script.used);
     Run {
         input,
-        session,
+        script,
         going: false,
     }
 }

@@ -3,7 +3,7 @@ mod body;
 mod lines;
 mod reading;
 mod replying;
-mod session;
+mod script;
 
 use lines::fresh_run;
 use lines::one_turn;

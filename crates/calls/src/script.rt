@@ -12,7 +12,7 @@ use worker::Worker;
 ghost use Prim.Native.Nat.{_≤_};
 
 // The worker, how many bytes are lent, how many words its event buffer has, and how far the output's buffer is filled.
-pub struct Session {
+pub struct Script {
     pub worker: Worker,
     pub lent: usize,
     pub words: usize,
@@ -29,10 +29,10 @@ const LAST_PLACE: usize = 15;
 const WORDS_OF_SIXTEEN: usize = 32;
 
 // Before the first start there is a worker that refuses every call, since no turn has 0 steps.
-pub fn fresh_session() -> Session {
+pub fn fresh_script() -> Script {
     let done = Worker::new(0, 0);
     let worker = done.worker;
-    Session {
+    Script {
         worker,
         lent: 0,
         words: 0,
@@ -47,9 +47,9 @@ fn least(a: usize, b: usize) -> usize
 }
 
 // A line that is no call, or that asks for more than the program has room for, changes nothing.
-pub fn bad_line(out: &mut [u8], session: Session) -> Session {
-    let mut next = session;
-    next.used = report::put(out, session.used, b"BadLine\n");
+pub fn bad_line(out: &mut [u8], script: Script) -> Script {
+    let mut next = script;
+    next.used = report::put(out, script.used, b"BadLine\n");
     next
 }
 
@@ -58,17 +58,17 @@ fn put_call(line: &[u8], out: &mut [u8], used: usize) -> usize {
     report::put(out, at, b" => ")
 }
 
-// The session after a call, whose reply is written behind it.
-fn finish(line: &[u8], done: Done, events: &[u32], out: &mut [u8], session: Session) -> Session {
+// The script after a call, whose reply is written behind it.
+fn finish(line: &[u8], done: Done, events: &[u32], out: &mut [u8], script: Script) -> Script {
     let worker = done.worker;
     let reply = done.reply;
-    let at = put_call(line, out, session.used);
+    let at = put_call(line, out, script.used);
     let at = put_reply(reply, events, out, at);
     let used = report::put(out, at, b"\n");
-    Session {
+    Script {
         worker,
-        lent: session.lent,
-        words: session.words,
+        lent: script.lent,
+        words: script.words,
         used,
     }
 }
@@ -79,23 +79,23 @@ pub fn serve(
     events: &mut [u32],
     scratch: &mut [u8],
     out: &mut [u8],
-    session: Session,
-) -> Session {
+    script: Script,
+) -> Script {
     let call = read_call(line);
     match call {
-        Call::Lend(from) => lend(line, from, lent, out, session),
-        Call::Start { q, words } => start(line, q, words, events, out, session),
+        Call::Lend(from) => lend(line, from, lent, out, script),
+        Call::Start { q, words } => start(line, q, words, events, out, script),
         Call::Admit {
             letters,
             start,
             at,
             length,
-        } => admit(line, letters, start, at, length, lent, out, session),
+        } => admit(line, letters, start, at, length, lent, out, script),
         Call::Body {
             place,
             scratch: count,
-        } => body(line, place, count, lent, scratch, out, session),
-        _ => serve_place(line, call, lent, events, out, session),
+        } => body(line, place, count, lent, scratch, out, script),
+        _ => serve_place(line, call, lent, events, out, script),
     }
 }
 
@@ -106,46 +106,38 @@ fn serve_place(
     lent: &[u8],
     events: &mut [u32],
     out: &mut [u8],
-    session: Session,
-) -> Session {
+    script: Script,
+) -> Script {
     match call {
-        Call::Turn => turn(
-            line,
-            lent,
-            events,
-            session.lent,
-            session.words,
-            out,
-            session,
-        ),
-        Call::TurnOfWords(words) => turn(line, lent, events, session.lent, words, out, session),
+        Call::Turn => turn(line, lent, events, script.lent, script.words, out, script),
+        Call::TurnOfWords(words) => turn(line, lent, events, script.lent, words, out, script),
         Call::TurnOfLent(count) => turn(
             line,
             lent,
             events,
-            least(count, session.lent),
-            session.words,
+            least(count, script.lent),
+            script.words,
             out,
-            session,
+            script,
         ),
-        Call::Tell { place, verdict } => tell(line, place, verdict, out, session),
-        Call::Collect(place) => collect(line, place, events, out, session),
-        _ => bad_line(out, session),
+        Call::Tell { place, verdict } => tell(line, place, verdict, out, script),
+        Call::Collect(place) => collect(line, place, events, out, script),
+        _ => bad_line(out, script),
     }
 }
 
 // The bytes stand on the line up to its end; more than there is room for are not taken.
-fn lend(line: &[u8], from: usize, lent: &mut [u8], out: &mut [u8], session: Session) -> Session {
+fn lend(line: &[u8], from: usize, lent: &mut [u8], out: &mut [u8], script: Script) -> Script {
     match text::read_bytes(line, from, line.len(), lent) {
         Hex::Decoded(count) => {
-            let at = put_call(line, out, session.used);
-            let mut next = session;
+            let at = put_call(line, out, script.used);
+            let mut next = script;
             next.lent = count;
             next.used = report::put(out, at, b"Lent\n");
             next
         }
-        Hex::BadHex => bad_line(out, session),
-        Hex::NoRoom => bad_line(out, session),
+        Hex::BadHex => bad_line(out, script),
+        Hex::NoRoom => bad_line(out, script),
     }
 }
 
@@ -156,18 +148,18 @@ fn start(
     words: usize,
     events: &mut [u32],
     out: &mut [u8],
-    session: Session,
-) -> Session {
+    script: Script,
+) -> Script {
     if MOST_WORDS < words {
-        return bad_line(out, session);
+        return bad_line(out, script);
     }
     let done = Worker::new(q, words);
     let reply = done.reply;
     if is_started(reply) {
-        return begin(line, done, words, events, out, session);
+        return begin(line, done, words, events, out, script);
     }
-    let worker = session.worker;
-    finish(line, Done { worker, reply }, &[], out, session)
+    let worker = script.worker;
+    finish(line, Done { worker, reply }, &[], out, script)
 }
 
 // The new worker, with an event buffer of zeros.
@@ -177,10 +169,10 @@ fn begin(
     words: usize,
     events: &mut [u32],
     out: &mut [u8],
-    session: Session,
-) -> Session {
+    script: Script,
+) -> Script {
     clear(events);
-    let mut next = session;
+    let mut next = script;
     next.words = words;
     finish(line, done, &[], out, next)
 }
@@ -201,10 +193,10 @@ fn admit(
     length: usize,
     lent: &[u8],
     out: &mut [u8],
-    session: Session,
-) -> Session {
-    let count = least(session.lent, lent.len());
-    let worker = session.worker;
+    script: Script,
+) -> Script {
+    let count = least(script.lent, lent.len());
+    let worker = script.worker;
     let done = worker.admit(
         &lent[0..count],
         at,
@@ -214,7 +206,7 @@ fn admit(
         letters.kind,
         letters.flags,
     );
-    finish(line, done, &[], out, session)
+    finish(line, done, &[], out, script)
 }
 
 // A turn over the first `count` of the lent bytes and an event buffer of so many words. The buffer has one word more than a worker
@@ -226,27 +218,27 @@ fn turn(
     count: usize,
     words: usize,
     out: &mut [u8],
-    session: Session,
-) -> Session {
+    script: Script,
+) -> Script {
     let bytes = least(count, lent.len());
     let length = least(words, events.len());
-    let worker = session.worker;
+    let worker = script.worker;
     let done = worker.turn(&lent[0..bytes], &mut events[0..length]);
-    finish(line, done, events, out, session)
+    finish(line, done, events, out, script)
 }
 
-fn tell(line: &[u8], place: usize, verdict: Verdict, out: &mut [u8], session: Session) -> Session {
-    let worker = session.worker;
+fn tell(line: &[u8], place: usize, verdict: Verdict, out: &mut [u8], script: Script) -> Script {
+    let worker = script.worker;
     let done = worker.verdict(place, verdict);
-    finish(line, done, &[], out, session)
+    finish(line, done, &[], out, script)
 }
 
 // The events of the page stand in the share of its place.
-fn collect(line: &[u8], place: usize, events: &[u32], out: &mut [u8], session: Session) -> Session {
-    let from = share_start(place, session.words, events.len());
-    let worker = session.worker;
+fn collect(line: &[u8], place: usize, events: &[u32], out: &mut [u8], script: Script) -> Script {
+    let from = share_start(place, script.words, events.len());
+    let worker = script.worker;
     let done = worker.collect(place);
-    finish(line, done, &events[from..], out, session)
+    finish(line, done, &events[from..], out, script)
 }
 
 fn share_start(place: usize, words: usize, most: usize) -> usize
@@ -264,14 +256,14 @@ fn body(
     lent: &[u8],
     scratch: &mut [u8],
     out: &mut [u8],
-    session: Session,
-) -> Session {
+    script: Script,
+) -> Script {
     if scratch.len() < count {
-        return bad_line(out, session);
+        return bad_line(out, script);
     }
-    let bytes = least(session.lent, lent.len());
-    let worker = session.worker;
-    let at = put_call(line, out, session.used);
+    let bytes = least(script.lent, lent.len());
+    let worker = script.worker;
+    let at = put_call(line, out, script.used);
     let at = put_body(
         worker,
         &lent[0..bytes],
@@ -280,7 +272,7 @@ fn body(
         out,
         at,
     );
-    let mut next = session;
+    let mut next = script;
     next.used = report::put(out, at, b"\n");
     next
 }

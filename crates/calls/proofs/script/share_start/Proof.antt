@@ -3,8 +3,8 @@ use Prim.Native.Nat.{_*_, _/_}
 use native.Mathlib.Nat.{mul-le-mul-right}
 use native.Mathlib.Omega.{arith}
 use borrow.Author.Needs.{needs}
-use Rattle.calls.proofs.session.share_start.Statement.{statement}
-use Rattle.calls.proofs.session.share_start.Tie as tie
+use Rattle.calls.proofs.script.share_start.Statement.{statement}
+use Rattle.calls.proofs.script.share_start.Tie as tie
 
 least-requires : tie.Need-least-requires
 least-requires c κs = search needs

@@ -4,8 +4,8 @@ use native.Mathlib.Omega.{arith}
 use mathlib.Core.Path.{_≡_, refl}
 use lib.ListN.{length, length-set}
 use borrow.Author.Needs.{needs}
-use Rattle.calls.proofs.session.clear.Statement.{statement}
-use Rattle.calls.proofs.session.clear.Tie as tie
+use Rattle.calls.proofs.script.clear.Statement.{statement}
+use Rattle.calls.proofs.script.clear.Tie as tie
 
 abbrev Inv-loop : tie.InvT-loop
 Inv-loop events₀ i₀ events i = (i ≤ length events) × (length events ≡ length events₀)
