@@ -60,7 +60,8 @@ atIn room i = leastOf (i .at) (endIn room i)
 abbrev pub takenOf : List ℕ → Input → Taken
 takenOf buffer i = takenAt buffer (atIn (length buffer) i) (endIn (length buffer) i) (i .skips) (i .ended)
 
--- a buffer with so much room was filled: what was unused stands at its front, and the input has ended if nothing came
+-- a buffer with so much room was filled: the unused bytes begin at its front and are no fewer, and the input has ended if none were added.
+-- Which bytes they are is not said
 pub record Filled (room : ℕ) (i r : Input) : Type 0 where
   pub front : r .at ≡ 0
   pub kept : endIn room i - atIn room i ≤ r .end
