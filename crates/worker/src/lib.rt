@@ -9,7 +9,7 @@ use scan::Answer;
 use scan::Began;
 use scan::Scan;
 ghost use mathlib.Core.Path.{_≡_};
-ghost use Prim.Native.Nat.{_+_, _*_, _/_, _≤_, _<_};
+ghost use Prim.Native.Nat.{_<_};
 ghost use lib.ListN.{length};
 ghost use Rattle.worker.specs.Worker.{noJob, freePlace, running, finished, ready, isKept, shareOf, workerInRange, nextIn, lowestIn, stored, refused, startOf, placedBy, admitOf, verdictOf, collectOf, did, servedAt, turnOf, Serving, holdsPage, pageAt, bodyReply, bodyOf};
 
