@@ -1,5 +1,5 @@
 -- The kinds of an event: the crate's names, numbered once in the order in which the modules use them, expression, tag, ESM
--- (document 01, 'The answer table'). A name is the crate's `Name` less its leading `Mdx`.
+-- (docs/SCOPE.md, 'The answer table'). A name is the crate's `Name` less its leading `Mdx`.
 use Prim.Native.Nat.{ℕ}
 
 abbrev pub flowExpression : ℕ

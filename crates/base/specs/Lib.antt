@@ -2,6 +2,7 @@ pub mod Byte
 pub mod Decide
 pub mod If
 pub mod Kind
+pub mod Number
 pub mod Page
 pub mod Range
 pub mod State

@@ -7,7 +7,7 @@ use lib.Dec.{ltb, eqb}
 use Rattle.base.specs.Byte.{lineFeed, endOfPage}
 use Rattle.base.specs.If.{if_then_else_}
 
--- the longest page that is taken (document 01, row 2)
+-- the longest page that is taken (docs/SCOPE.md, row 2)
 abbrev pub pageLimit : ℕ
 pageLimit = 1048576
 

@@ -9,9 +9,9 @@ use Rattle.base.specs.If.{and-no, and-no′, both}
 unfoldable pub within : ℕ → ℕ → ℕ → Bool
 within low high x = leb low x && leb x high
 
-pub inside : (low high x : ℕ) → low ≤ x → x ≤ high → within low high x ≡ true
+pub is-within : (low high x : ℕ) → low ≤ x → x ≤ high → within low high x ≡ true
 unfolding within
-inside low high x p q = rw (le-leb low x p, le-leb x high q)
+is-within low high x p q = rw (le-leb low x p, le-leb x high q)
 
 pub below : (low high x : ℕ) → x < low → within low high x ≡ false
 unfolding within

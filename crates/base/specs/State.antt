@@ -1,4 +1,4 @@
--- The states of a scan. A scan rests where it has ended, at the number of its answer (document 01, 'The answer table'), and
+-- The states of a scan. A scan rests where it has ended, at the number of its answer (docs/SCOPE.md, 'The answer table'), and
 -- where it asks for a verdict. The running states are the Rust's `StateName`s, under their names.
 use Prim.Native.Nat.{ℕ}
 use mathlib.Core.Bool.{Bool}
@@ -34,9 +34,13 @@ badCall = 12
 abbrev pub asking : ℕ
 asking = 31
 
+-- the running states begin here; 13 to 30 are kept for answers to come
+abbrev pub firstRunning : ℕ
+firstRunning = 32
+
 -- the scan has ended, or waits for a verdict
 abbrev pub rests : ℕ → Bool
-rests state = ltb state 32
+rests state = ltb state firstRunning
 
 abbrev pub mdxExpressionStart : ℕ
 mdxExpressionStart = 32

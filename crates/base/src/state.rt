@@ -1,4 +1,4 @@
-// The states of a scan. Those below FIRST_RUNNING are where it rests: the answers of document 01 by their numbers, and ASKING.
+// The states of a scan. Those below FIRST_RUNNING are where it rests: the answers of docs/SCOPE.md by their numbers, and ASKING.
 // The running ones are the Rust's states by name, expression, tag, ESM, and those that apply a verdict.
 pub const DONE: u8 = 0;
 

@@ -4,7 +4,7 @@ use worker::Reply;
 use worker::Worker;
 
 // The reply to a call for the body at a place: where it stands, its length and its bytes.
-pub fn put_body(
+pub(crate) fn put_body(
     worker: Worker,
     lent: &[u8],
     place: usize,
@@ -12,8 +12,8 @@ pub fn put_body(
     out: &mut [u8],
     used: usize,
 ) -> usize {
-    let done = worker.body(lent, place, scratch);
-    let reply = done.reply;
+    let called = worker.body(lent, place, scratch);
+    let reply = called.reply;
     let body = body_in(reply);
     let at = put_body_place(body, out, used);
     put_part(
@@ -25,15 +25,16 @@ pub fn put_body(
 }
 
 // Where the reply says that the body is.
-fn body_in(reply: Reply) -> Body {
+pub(crate) fn body_in(reply: Reply) -> Body {
     match reply {
-        Reply::Read(body) => body,
+        Reply::InPage { at, length } => Body::InPage { at, length },
+        Reply::InScratch { length } => Body::InScratch { length },
         _ => Body::BadCall,
     }
 }
 
 // Where it is, and how long it is.
-pub fn put_body_place(body: Body, out: &mut [u8], used: usize) -> usize {
+pub(crate) fn put_body_place(body: Body, out: &mut [u8], used: usize) -> usize {
     match body {
         Body::InPage { at, length } => {
             let used = report::put(out, used, b"Page ");

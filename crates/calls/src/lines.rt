@@ -7,13 +7,13 @@ use text::Input;
 use text::Line;
 
 // How far the input is used up, what the calls have come to, and whether there is more to do.
-pub struct Run {
+pub(crate) struct Run {
     pub input: Input,
     pub script: Script,
     pub going: bool,
 }
 
-pub fn fresh_run() -> Run {
+pub(crate) fn fresh_run() -> Run {
     Run {
         input: Input::new(),
         script: fresh_script(),
@@ -22,7 +22,7 @@ pub fn fresh_run() -> Run {
 }
 
 // A line is used up, or more is read.
-pub fn one_turn(
+pub(crate) fn one_turn(
     buffer: &mut [u8],
     lent: &mut [u8],
     events: &mut [u32],

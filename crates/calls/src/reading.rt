@@ -6,7 +6,7 @@ use text::ReadLetters;
 use text::ReadNumber;
 use text::ReadVerdict;
 
-pub enum Call {
+pub(crate) enum Call {
     // Where the bytes in hex begin on the line.
     Lend(usize),
     Start {
@@ -42,7 +42,7 @@ pub enum Call {
 // The bytes that the letters of an admission take, with their spaces.
 const LETTERS_LENGTH: usize = 8;
 
-pub fn read_call(line: &[u8]) -> Call {
+pub(crate) fn read_call(line: &[u8]) -> Call {
     let end = text::find(line, 0, b' ');
     if text::is_word(line, 0, line.len(), b"turn") {
         return Call::Turn;

@@ -1,4 +1,5 @@
 // A reply as text.
+use crate::body::body_in;
 use crate::body::put_body_place;
 use report::Told;
 use report::tell;
@@ -11,21 +12,20 @@ const NO_PLACE: u8 = 11;
 const ANSWER_ROOM: usize = 256;
 
 // A collected page's events stand at the start of the lent part of the event buffer.
-pub fn put_reply(reply: Reply, events: &[u32], out: &mut [u8], used: usize) -> usize {
+pub(crate) fn put_reply(reply: Reply, events: &[u32], out: &mut [u8], used: usize) -> usize {
     match reply {
         Reply::Started => report::put(out, used, b"Started"),
         Reply::Placed(place) => put_place(b"Place ", place, out, used),
-        Reply::Kept => report::put(out, used, b"Kept"),
         Reply::Served(place) => put_place(b"Served ", place, out, used),
         Reply::Idle => report::put(out, used, b"Idle"),
-        Reply::Gave(answer) => put_collected(tell(answer), events, out, used),
-        Reply::Read(body) => put_body_place(body, out, used),
+        Reply::InPage { .. } => put_body_place(body_in(reply), out, used),
+        Reply::InScratch { .. } => put_body_place(body_in(reply), out, used),
         Reply::NoPlace => put_no_place(out, used),
-        Reply::Refused(answer) => put_answer(tell(answer), out, used),
+        Reply::Answered(answer) => put_answered(tell(answer), events, out, used),
     }
 }
 
-pub fn is_started(reply: Reply) -> bool {
+pub(crate) fn is_started(reply: Reply) -> bool {
     match reply {
         Reply::Started => true,
         _ => false,
@@ -45,6 +45,14 @@ fn put_no_place(out: &mut [u8], used: usize) -> usize {
 fn put_answer(told: Told, out: &mut [u8], used: usize) -> usize {
     let at = report::make_room(out, used, ANSWER_ROOM);
     report::answer_text(out, at, told)
+}
+
+// A finished page's answer carries its counts; a verdict kept and a refusal carry none.
+fn put_answered(told: Told, events: &[u32], out: &mut [u8], used: usize) -> usize {
+    if told.counted {
+        return put_collected(told, events, out, used);
+    }
+    put_answer(told, out, used)
 }
 
 fn put_collected(told: Told, events: &[u32], out: &mut [u8], used: usize) -> usize {

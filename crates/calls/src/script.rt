@@ -7,12 +7,12 @@ use crate::replying::put_reply;
 use base::Verdict;
 use text::Hex;
 use text::Letters;
-use worker::Done;
+use worker::Called;
 use worker::Worker;
 ghost use Prim.Native.Nat.{_≤_};
 
 // The worker, how many bytes are lent, how many words its event buffer has, and how far the output's buffer is filled.
-pub struct Script {
+pub(crate) struct Script {
     pub worker: Worker,
     pub lent: usize,
     pub words: usize,
@@ -22,16 +22,10 @@ pub struct Script {
 // The longest event buffer of a worker, in words.
 const MOST_WORDS: usize = 65_536;
 
-// The highest place of a worker.
-const LAST_PLACE: usize = 15;
-
-// A place's share of the event buffer is a sixteenth of it, in whole events of two words.
-const WORDS_OF_SIXTEEN: usize = 32;
-
 // Before the first start there is a worker that refuses every call, since no turn has 0 steps.
-pub fn fresh_script() -> Script {
-    let done = Worker::new(0, 0);
-    let worker = done.worker;
+pub(crate) fn fresh_script() -> Script {
+    let called = Worker::new(0, 0);
+    let worker = called.worker;
     Script {
         worker,
         lent: 0,
@@ -47,7 +41,7 @@ fn least(a: usize, b: usize) -> usize
 }
 
 // A line that is no call, or that asks for more than the program has room for, changes nothing.
-pub fn bad_line(out: &mut [u8], script: Script) -> Script {
+pub(crate) fn bad_line(out: &mut [u8], script: Script) -> Script {
     let mut next = script;
     next.used = report::put(out, script.used, b"BadLine\n");
     next
@@ -59,9 +53,9 @@ fn put_call(line: &[u8], out: &mut [u8], used: usize) -> usize {
 }
 
 // The script after a call, whose reply is written behind it.
-fn finish(line: &[u8], done: Done, events: &[u32], out: &mut [u8], script: Script) -> Script {
-    let worker = done.worker;
-    let reply = done.reply;
+fn finish(line: &[u8], called: Called, events: &[u32], out: &mut [u8], script: Script) -> Script {
+    let worker = called.worker;
+    let reply = called.reply;
     let at = put_call(line, out, script.used);
     let at = put_reply(reply, events, out, at);
     let used = report::put(out, at, b"\n");
@@ -73,7 +67,7 @@ fn finish(line: &[u8], done: Done, events: &[u32], out: &mut [u8], script: Scrip
     }
 }
 
-pub fn serve(
+pub(crate) fn serve(
     line: &[u8],
     lent: &mut [u8],
     events: &mut [u32],
@@ -153,19 +147,19 @@ fn start(
     if MOST_WORDS < words {
         return bad_line(out, script);
     }
-    let done = Worker::new(q, words);
-    let reply = done.reply;
+    let called = Worker::new(q, words);
+    let reply = called.reply;
     if is_started(reply) {
-        return begin(line, done, words, events, out, script);
+        return begin(line, called, words, events, out, script);
     }
     let worker = script.worker;
-    finish(line, Done { worker, reply }, &[], out, script)
+    finish(line, Called { worker, reply }, &[], out, script)
 }
 
 // The new worker, with an event buffer of zeros.
 fn begin(
     line: &[u8],
-    done: Done,
+    called: Called,
     words: usize,
     events: &mut [u32],
     out: &mut [u8],
@@ -174,7 +168,7 @@ fn begin(
     clear(events);
     let mut next = script;
     next.words = words;
-    finish(line, done, &[], out, next)
+    finish(line, called, &[], out, next)
 }
 
 fn clear(events: &mut [u32]) {
@@ -197,7 +191,7 @@ fn admit(
 ) -> Script {
     let count = least(script.lent, lent.len());
     let worker = script.worker;
-    let done = worker.admit(
+    let called = worker.admit(
         &lent[0..count],
         at,
         length,
@@ -206,7 +200,7 @@ fn admit(
         letters.kind,
         letters.flags,
     );
-    finish(line, done, &[], out, script)
+    finish(line, called, &[], out, script)
 }
 
 // A turn over the first `count` of the lent bytes and an event buffer of so many words. The buffer has one word more than a worker
@@ -223,29 +217,23 @@ fn turn(
     let bytes = least(count, lent.len());
     let length = least(words, events.len());
     let worker = script.worker;
-    let done = worker.turn(&lent[0..bytes], &mut events[0..length]);
-    finish(line, done, events, out, script)
+    let called = worker.turn(&lent[0..bytes], &mut events[0..length]);
+    finish(line, called, events, out, script)
 }
 
 fn tell(line: &[u8], place: usize, verdict: Verdict, out: &mut [u8], script: Script) -> Script {
     let worker = script.worker;
-    let done = worker.verdict(place, verdict);
-    finish(line, done, &[], out, script)
+    let called = worker.verdict(place, verdict);
+    finish(line, called, &[], out, script)
 }
 
 // The events of the page stand in the share of its place.
 fn collect(line: &[u8], place: usize, events: &[u32], out: &mut [u8], script: Script) -> Script {
-    let from = share_start(place, script.words, events.len());
+    let count = least(script.words, events.len());
     let worker = script.worker;
-    let done = worker.collect(place);
-    finish(line, done, &events[from..], out, script)
-}
-
-fn share_start(place: usize, words: usize, most: usize) -> usize
-    ensures { λ r. ⌜ r ≤ most ⌝ }
-{
-    let share = least(words, MOST_WORDS) / WORDS_OF_SIXTEEN * 2;
-    least(least(place, LAST_PLACE) * share, most)
+    let called = worker.collect(place);
+    let share = worker.share(&events[0..count], place);
+    finish(line, called, share, out, script)
 }
 
 // A body, by way of the first `count` bytes of the scratch.

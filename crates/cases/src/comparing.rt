@@ -11,7 +11,7 @@ const PIECE_ROOM: usize = 256;
 
 // Whether the parts that are recorded from a place on are those of the answer. At Nok an empty list of events says nothing, since
 // the crate takes its events back there.
-pub fn agrees(line: &[u8], from: usize, told: Told, answer: &[u8], words: &[u32]) -> bool {
+pub(crate) fn agrees(line: &[u8], from: usize, told: Told, answer: &[u8], words: &[u32]) -> bool {
     let mut piece = [0u8; PIECE_ROOM];
     let at = eat(line, from, answer);
     let at = eat_steps(line, at, told.steps, &mut piece);
@@ -56,17 +56,13 @@ fn eat_steps(line: &[u8], from: usize, steps: usize, piece: &mut [u8]) -> usize 
 }
 
 fn eat_events(line: &[u8], from: usize, words: &[u32], count: usize, piece: &mut [u8]) -> usize {
+    let most = events::room::held(count, words.len());
     let mut place = from;
-    let mut left = count;
-    let mut at = 0;
-    while at + 1 < words.len() {
-        if left == 0 {
-            return place;
-        }
-        let end = report::event_mark(piece, 0, words[at], words[at + 1]);
+    let mut k = 0;
+    while k < most {
+        let end = report::event_mark(piece, 0, events::read(words, k));
         place = eat(line, place, &piece[0..end]);
-        left = left - 1;
-        at += 2;
+        k += 1;
     }
     place
 }

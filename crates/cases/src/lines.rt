@@ -11,7 +11,7 @@ ghost use Prim.Native.Nat.{_≤_};
 ghost use lib.ListN.{length};
 
 // How far the input is used up and the output's buffer is filled, what was counted, and whether there is more to do.
-pub struct Run {
+pub(crate) struct Run {
     pub input: Input,
     pub used: usize,
     pub cases: u64,
@@ -20,7 +20,7 @@ pub struct Run {
     pub going: bool,
 }
 
-pub fn fresh_run() -> Run {
+pub(crate) fn fresh_run() -> Run {
     Run {
         input: Input::new(),
         used: 0,
@@ -32,7 +32,7 @@ pub fn fresh_run() -> Run {
 }
 
 // A line is used up, or more is read. What is to be written is written before each read, so that someone at a terminal sees it.
-pub fn one_turn(
+pub(crate) fn one_turn(
     buffer: &mut [u8],
     page: &mut [u8],
     words: &mut [u32],
@@ -91,7 +91,7 @@ fn run_line(
     match read_case(&line[0..end], space) {
         ReadCase::Good(case) => {
             let count = least(case.length, space.len());
-            let room = words_for(case.room, words.len());
+            let room = events::room::words_for(case.room, words.len());
             run_good(
                 line,
                 end,
@@ -129,13 +129,6 @@ fn least(a: usize, b: usize) -> usize
     ensures { λ r. ⌜ r ≤ b ⌝ }
 {
     if a < b { a } else { b }
-}
-
-// Two words for each event, as far as there are words: no page fills them all.
-fn words_for(room: usize, most: usize) -> usize
-    ensures { λ r. ⌜ r ≤ most ⌝ }
-{
-    if room < most / 2 { room * 2 } else { most }
 }
 
 // Where the case on a line ends: before ` => `, or at the line's end. An arrow that stands otherwise leaves no case.
@@ -223,7 +216,7 @@ fn put_steps(steps: usize, out: &mut [u8], used: usize) -> usize {
 }
 
 // The last line of the output.
-pub fn put_totals(out: &mut [u8], run: Run) {
+pub(crate) fn put_totals(out: &mut [u8], run: Run) {
     let at = report::put_number(out, run.used, run.cases);
     let at = report::put(out, at, b" cases, ");
     let at = report::put_number(out, at, run.compared);

@@ -17,7 +17,7 @@ const LINE_ROOM: usize = 3_145_728;
 
 const PAGE_ROOM: usize = 60_000;
 
-const WORD_ROOM: usize = 720_012;
+const WORD_ROOM: usize = 6 * (PAGE_ROOM + 1) * events::WIDTH;
 
 const PIECE_ROOM: usize = 131_072;
 

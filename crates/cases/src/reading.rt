@@ -7,7 +7,7 @@ use text::ReadNumber;
 use text::ReadVerdict;
 ghost use Prim.Native.Nat.{_≤_};
 
-pub struct Case {
+pub(crate) struct Case {
     pub construct: u8,
     pub kind: u8,
     pub flags: u8,
@@ -21,7 +21,7 @@ pub struct Case {
     pub allowance: usize,
 }
 
-pub enum ReadCase {
+pub(crate) enum ReadCase {
     Good(Case),
     Bad,
 }
@@ -36,7 +36,7 @@ const ALLOWANCE: usize = 480_016;
 const AFTER_LETTERS: usize = 8;
 
 // The case on a line; its page goes to the lent space.
-pub fn read_case(line: &[u8], space: &mut [u8]) -> ReadCase {
+pub(crate) fn read_case(line: &[u8], space: &mut [u8]) -> ReadCase {
     match text::read_letters(line, 0) {
         ReadLetters::Asked(letters) => read_start(line, new_case(letters), space),
         ReadLetters::NoLetters => ReadCase::Bad,
@@ -117,7 +117,7 @@ fn all_verdicts(line: &[u8], from: usize, to: usize) -> bool {
 }
 
 // Where the item that begins at a place of a comma list ends.
-pub fn item_end(line: &[u8], at: usize, to: usize) -> usize
+pub(crate) fn item_end(line: &[u8], at: usize, to: usize) -> usize
     ensures { λ r. ⌜ (r ≤ to) × (at ≤ to → at ≤ r) ⌝ }
 {
     let comma = text::find(line, at, b',');

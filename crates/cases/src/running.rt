@@ -20,7 +20,7 @@ const CALLS: usize = 1_000_000;
 const ASKING: u8 = 31;
 
 // The answer taken apart, and the length of its text, which stands at the start of a lent buffer.
-pub struct Outcome {
+pub(crate) struct Outcome {
     pub told: Told,
     pub length: usize,
 }
@@ -33,7 +33,7 @@ struct Turn {
 }
 
 // The text of the answer, with the body where the scan asks, goes to the piece.
-pub fn run_case(
+pub(crate) fn run_case(
     line: &[u8],
     case: Case,
     page: &[u8],

@@ -1,4 +1,4 @@
--- The classes of a byte, as document 01, 'Classes', gives them: "White space is 9 to 13 and 32. A name starts with a letter,
+-- The classes of a byte, as docs/SCOPE.md, 'Classes', gives them: "White space is 9 to 13 and 32. A name starts with a letter,
 -- `$` or `_` and goes on with those, digits and `-`." A byte is its number; the page's end has a number of its own, which is in
 -- no class.
 use Prim.Native.Nat.{ℕ}

@@ -15,8 +15,8 @@ const LONGEST: usize = 60_000;
 
 const PAGE_ROOM: usize = 60_001;
 
-// Two words for each of six events for each byte and the page's end.
-const WORD_ROOM: usize = 720_012;
+// Words for six events for each byte and the page's end.
+const WORD_ROOM: usize = 6 * PAGE_ROOM * events::WIDTH;
 
 const TEXT_ROOM: usize = 65_536;
 
@@ -58,7 +58,7 @@ fn answer_of(page: &[u8], words: &mut [u32]) -> Answer {
         page.len(),
         0,
         construct,
-        machine::FLOW,
+        tokenizer::FLOW,
         flags_of(construct),
         words.len(),
     );
@@ -70,17 +70,17 @@ fn answer_of(page: &[u8], words: &mut [u32]) -> Answer {
 
 fn construct_of(page: &[u8]) -> u8 {
     if page.len() == 0 {
-        return machine::ESM;
+        return tokenizer::ESM;
     }
     match page[0] {
-        b'{' => machine::EXPRESSION,
-        b'<' => machine::TAG,
-        _ => machine::ESM,
+        b'{' => tokenizer::EXPRESSION,
+        b'<' => tokenizer::TAG,
+        _ => tokenizer::ESM,
     }
 }
 
 fn flags_of(construct: u8) -> u8 {
-    if construct == machine::ESM { ASKS } else { 0 }
+    if construct == tokenizer::ESM { ASKS } else { 0 }
 }
 
 // The scan runs until it has ended; whenever it asks, all is fine.

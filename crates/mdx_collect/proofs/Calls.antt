@@ -8,14 +8,14 @@ use lib.Dec.{eqb}
 use lib.ListN.{length}
 use borrow.Author.Tests.{eqb-true}
 use Rattle.base.specs.If.{if_then_else_, both}
-use Rattle.body.specs.Body.{expressionPlaces}
-use Rattle.machine.specs.Ranges.{inRange}
+use Rattle.body_places.specs.Body.{expressionPlaces}
+use Rattle.tokenizer.specs.Ranges.{inRange}
 use Rattle.scan.specs.declared.Scan.{Scan}
 use Rattle.scan.specs.Call.{scanInRange}
-use Rattle.bound.specs.Parts.{parts}
+use Rattle.scan.proofs.Ranged.{ranged}
 use Rattle.mdx_collect.specs.declared.Body.{Body}
 use Rattle.mdx_collect.specs.declared.Body.the-variants.{InPage, BadCall}
-use Rattle.mdx_collect.specs.Collect.{first, seam, onlyPrefix, asksIn, asked, collected, copiedOf, collectOf}
+use Rattle.mdx_collect.specs.Collect.{first, seam, onlyPrefix, asksIn, asked, collectedBy, copiedOf, collectOf}
 
 -- the page has the scan's length, and the scan is in range
 pub record Asks (s : Scan) (n : ℕ) : Type 0 where
@@ -28,20 +28,20 @@ unfolding asked scanInRange
 asks s n e =
     let a = both (asksIn (s .tokenizer .state) (s .tokenizer .job .construct)) _ e in
     let b = both (eqb n (s .tokenizer .job .length)) _ (a .1) in
-    let p = parts (s .tokenizer) (both (inRange (s .tokenizer)) _ (b .1) .0) in
+    let p = ranged (s .tokenizer) (both (inRange (s .tokenizer)) _ (b .1) .0) in
     let l = eqb-true n (s .tokenizer .job .length) (b .0) in
     record { long = l; range = b .1; at = omega (arith, p .at, l) }
 
 module _ (page : List ℕ) (s : Scan) (scratch : List ℕ) where
-  pub not-asked : asked s (length page) ≡ false → collected BadCall scratch ≡ collectOf page s scratch
+  pub not-asked : asked s (length page) ≡ false → collectedBy BadCall scratch ≡ collectOf page s scratch
   unfolding collectOf if_then_else_
   not-asked e = rw e
 
   module _ (from end : ℕ) (a : asked s (length page) ≡ true) (f : from ≡ first s) (g : end ≡ seam s) where
-    pub in-page : (n : ℕ) → n ≡ end - from → onlyPrefix page end (s .tokenizer .at) ≡ true → collected (InPage from n) scratch ≡ collectOf page s scratch
+    pub in-page : (n : ℕ) → n ≡ end - from → onlyPrefix page end (s .tokenizer .at) ≡ true → collectedBy (InPage from n) scratch ≡ collectOf page s scratch
     unfolding collectOf if_then_else_
     in-page n h o = rw (h, f, g) (rw (a, rw g at o))
 
-    pub in-scratch : (r : Body) (out : List ℕ) → onlyPrefix page end (s .tokenizer .at) ≡ false → collected r out ≡ copiedOf page (expressionPlaces page from (s .tokenizer .at)) scratch → collected r out ≡ collectOf page s scratch
+    pub in-scratch : (r : Body) (out : List ℕ) → onlyPrefix page end (s .tokenizer .at) ≡ false → collectedBy r out ≡ copiedOf page (expressionPlaces page from (s .tokenizer .at)) scratch → collectedBy r out ≡ collectOf page s scratch
     unfolding collectOf if_then_else_
     in-scratch r out o e = rw (a, rw g at o) (rw f at e)

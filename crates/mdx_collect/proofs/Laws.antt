@@ -12,8 +12,8 @@ use borrow.Author.Tests.{ne-eqb, ltb-true}
 use Rattle.base.specs.If.{if_then_else_, case, both, and-no′, and-yes}
 use Rattle.base.specs.Page.{byteAt}
 use Rattle.char_class.specs.Class.{isSpaceOrTab}
-use Rattle.body.specs.Body.{prefixAfter, inPrefix, placesFrom, bytesAt}
-use Rattle.body.proofs.Laws.{skips, keeps, over}
+use Rattle.body_places.specs.Body.{prefixAfter, inPrefix, placesFrom, bytesAt}
+use Rattle.body_places.proofs.Laws.{skips, keeps, over}
 use Rattle.mdx_collect.specs.Collect.{onlyPrefix}
 
 -- ---- nothing but a line prefix

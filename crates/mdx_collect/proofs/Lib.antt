@@ -1,12 +1,2 @@
 pub mod Laws
 pub mod Calls
-pub mod Places
-pub mod Marks
-pub mod Kept
-pub mod ExpressionSteps
-pub mod TagSteps
-pub mod EsmSteps
-pub mod Together
-pub mod OneBody
-pub mod Parts
-pub mod Errors

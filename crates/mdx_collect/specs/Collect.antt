@@ -1,12 +1,12 @@
 -- The body that an asking scan hands over, read from page and state alone.
 --
--- Document 01, 'Body': "The data and line endings in order, without line prefixes. The reader gets back a part of the page when no prefix
+-- docs/SCOPE.md, 'Body': "The data and line endings in order, without line prefixes. The reader gets back a part of the page when no prefix
 -- stands between two of its bytes, else a part of the lent scratch it was copied to. It is asked of a state that is Asking, its page
 -- inside the lent bytes, else 12, and read from page and state alone. Scratch too short, where needed: 12, scratch untouched; past the
 -- copy it stays as lent."
 --
 -- The crate collects the events (`util/mdx_collect.rs`). That what is said here is the same, for every scan that calls gave, is the theorem
--- `the-body-is-what-the-events-say`, in proofs/.
+-- `the-body-is-what-the-events-say` of crate `body_theorems`.
 use Prim.Native.Nat.{ℕ, _-_}
 use mathlib.Core.Path.{_≡_}
 use mathlib.Core.Bool.{Bool, true, false, _&&_, _||_}
@@ -15,26 +15,23 @@ use lib.Dec.{leb, eqb}
 use lib.ListN.{length}
 use lib.Seq.{sets}
 use Rattle.base.specs.If.{if_then_else_}
+use Rattle.base.specs.Number as number
 use Rattle.base.specs.State.{asking}
-use Rattle.body.specs.Body.{placesFrom, expressionPlaces, allFrom, bytesAt}
-use Rattle.page.specs.Page.{inside, pageOf}
-use Rattle.machine.specs.Ranges.{esm}
+use Rattle.body_places.specs.Body.{placesFrom, expressionPlaces, allFrom, bytesAt}
+use Rattle.page.specs.Page.{liesInside, pageOf}
+use Rattle.tokenizer.specs.Ranges.{esm}
 use Rattle.scan.specs.declared.Scan.{Scan}
+use Rattle.scan.specs.Answer.{Said, said, refused}
 use Rattle.scan.specs.Call.{scanInRange, verdictState}
 use Rattle.mdx_collect.specs.declared.Body.{Body}
 use Rattle.mdx_collect.specs.declared.Body.the-variants.{InPage, InScratch, BadCall}
 
--- ---- the answers, by number and values; those that the answer table does not number follow the worker's
+-- ---- the answers, by number and values
 
-abbrev pub numberOf : Body → ℕ
-numberOf (InPage at n) = 38
-numberOf (InScratch n) = 39
-numberOf BadCall = 12
-
-abbrev pub valuesOf : Body → List ℕ
-valuesOf (InPage at n) = at ∷ n ∷ []
-valuesOf (InScratch n) = n ∷ []
-valuesOf BadCall = []
+abbrev pub saidBy : Body → Said
+saidBy (InPage at n) = said 38 (at ∷ n ∷ [])
+saidBy (InScratch n) = said 39 (n ∷ [])
+saidBy BadCall = said 12 []
 
 -- it is no refusal
 abbrev pub handedOver : Body → Bool
@@ -48,8 +45,8 @@ handedOver BadCall = false
 abbrev pub first : Scan → ℕ
 first s = if eqb (s .tokenizer .job .construct) esm then s .tokenizer .job .start else s .tokenizer .regs .body
 
--- no line prefix stands before this place: the place of the first one (a register of the scan), or the place that asks. "ESM: nothing is
--- dropped"
+-- no line prefix stands before this place: the place of the first one (a register of the scan), or the place that asks. Of an ESM block
+-- nothing is left out
 abbrev pub seam : Scan → ℕ
 seam s =
     if eqb (s .tokenizer .job .construct) esm then s .tokenizer .at
@@ -88,30 +85,34 @@ asked s n =
 
 -- what the call leaves: where the body is, and the scratch
 pub record Collected : Type 0 where
-  pub body : Body
+  pub answer : Said
   pub scratch : List ℕ
 
-abbrev pub collected : Body → List ℕ → Collected
-collected body scratch = record { body = body; scratch = scratch }
+abbrev pub collected : Said → List ℕ → Collected
+collected answer scratch = record { answer = answer; scratch = scratch }
+
+-- as the code hands it back
+abbrev pub collectedBy : Body → List ℕ → Collected
+collectedBy b scratch = collected (saidBy b) scratch
 
 -- the body copied to the front of the scratch
 abbrev pub copiedOf : List ℕ → List ℕ → List ℕ → Collected
 copiedOf page places scratch =
-    if leb (length places) (length scratch) then collected (InScratch (length places)) (sets scratch 0 (bytesAt page places))
-    else collected BadCall scratch
+    if leb (length places) (length scratch) then collected (said number.inScratch (length places ∷ [])) (sets scratch 0 (bytesAt page places))
+    else collected refused scratch
 
 unfoldable pub collectOf : List ℕ → Scan → List ℕ → Collected
 collectOf page s scratch =
     if asked s (length page) then
-    (if unbroken page s then collected (InPage (first s) (seam s - first s)) scratch
+    (if unbroken page s then collected (said number.inPage (first s ∷ (seam s - first s) ∷ [])) scratch
     else copiedOf page (expressionPlaces page (first s) (s .tokenizer .at)) scratch)
-    else collected BadCall scratch
+    else collected refused scratch
 
 -- ---- the part that is read
 
 -- n bytes from a place on; nothing, where they are not there
 abbrev pub pieceOf : List ℕ → ℕ → ℕ → List ℕ
-pieceOf bytes at n = if inside (length bytes) at n then pageOf bytes at n else []
+pieceOf bytes at n = if liesInside (length bytes) at n then pageOf bytes at n else []
 
 abbrev pub partOf : List ℕ → List ℕ → Body → List ℕ
 partOf page scratch (InPage at n) = pieceOf page at n
@@ -121,6 +122,6 @@ partOf page scratch BadCall = []
 -- what is read after a call that is not refused is the body: for every page, state and scratch
 abbrev pub PartIsBody : Type 0
 PartIsBody =
-    (page : List ℕ) (s : Scan) (scratch : List ℕ)
-    → let c = collectOf page s scratch in
-    handedOver (c .body) ≡ true → partOf page (c .scratch) (c .body) ≡ bodyOf page s
+    (page : List ℕ) (s : Scan) (scratch : List ℕ) (b : Body) (out : List ℕ)
+    → collectedBy b out ≡ collectOf page s scratch
+    → handedOver b ≡ true → partOf page out b ≡ bodyOf page s

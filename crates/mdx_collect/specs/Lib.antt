@@ -1,3 +1,1 @@
 pub mod Collect
-pub mod Events
-pub mod Statement

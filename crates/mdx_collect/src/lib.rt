@@ -9,8 +9,8 @@ ghost use mathlib.Core.Path.{_≡_};
 ghost use Prim.Native.Nat.{_-_, _≤_};
 ghost use lib.ListN.{length};
 ghost use lib.Seq.{sets};
-ghost use Rattle.body.specs.Body.{expressionPlaces, bytesAt};
-ghost use Rattle.mdx_collect.specs.Collect.{first, seam, onlyPrefix, asksIn, asked, collected, copiedOf, collectOf, pieceOf, partOf};
+ghost use Rattle.body_places.specs.Body.{expressionPlaces, bytesAt};
+ghost use Rattle.mdx_collect.specs.Collect.{first, seam, onlyPrefix, asksIn, asked, collectedBy, copiedOf, collectOf, pieceOf, partOf};
 
 // Where a body is: a part of the page, or the front of the scratch.
 pub enum Body {
@@ -24,7 +24,7 @@ fn first_of(scan: Scan) -> usize
     ensures { λ r. ⌜ r ≡ first scan ⌝ }
 {
     let job = scan.tokenizer.job;
-    if job.construct == machine::ESM {
+    if job.construct == tokenizer::ESM {
         return job.start;
     }
     scan.tokenizer.regs.body
@@ -35,7 +35,7 @@ fn seam_of(scan: Scan) -> usize
     ensures { λ r. ⌜ r ≡ seam scan ⌝ }
 {
     let joint = scan.tokenizer.regs.joint;
-    if scan.tokenizer.job.construct == machine::ESM {
+    if scan.tokenizer.job.construct == tokenizer::ESM {
         return scan.tokenizer.at;
     }
     if joint == 0 {
@@ -74,7 +74,7 @@ fn is_asking(name: u8, construct: u8) -> bool
     if name == state::ASKING {
         return true;
     }
-    name == scan::verdict_state(construct)
+    name == scan::calling::verdict_state(construct)
 }
 
 // Whether the scan asks, over a page of n bytes.
@@ -100,13 +100,13 @@ fn count(page: &[u8], from: usize, to: usize) -> usize
     let mut n: usize = 0;
     while at < to {
         let b = byte_at(page, at);
-        if body::in_prefix(b, left) {
+        if body_places::in_prefix(b, left) {
             left = left - 1;
             at = at + 1;
             continue;
         }
         n = n + 1;
-        left = body::prefix_after(b);
+        left = body_places::prefix_after(b);
         at = at + 1;
     }
     n
@@ -122,14 +122,14 @@ fn copy(page: &[u8], from: usize, end: usize, scratch: &mut [u8])
     let mut n: usize = 0;
     while at < end {
         let b = byte_at(page, at);
-        if body::in_prefix(b, left) {
+        if body_places::in_prefix(b, left) {
             left = left - 1;
             at = at + 1;
             continue;
         }
         scratch[n] = page[at];
         n = n + 1;
-        left = body::prefix_after(b);
+        left = body_places::prefix_after(b);
         at = at + 1;
     }
 }
@@ -137,7 +137,7 @@ fn copy(page: &[u8], from: usize, end: usize, scratch: &mut [u8])
 // The body between the two places, copied to the scratch if it fits there.
 fn copied(page: &[u8], from: usize, to: usize, scratch: &mut [u8]) -> Body
     requires { ⌜ to ≤ length (now page) ⌝ }
-    ensures { λ r. ⌜ collected r (now (scratch .exit)) ≡ copiedOf (now (page .entry)) (expressionPlaces (now (page .entry)) from to) (now (scratch .entry)) ⌝ }
+    ensures { λ r. ⌜ collectedBy r (now (scratch .exit)) ≡ copiedOf (now (page .entry)) (expressionPlaces (now (page .entry)) from to) (now (scratch .entry)) ⌝ }
 {
     let length = count(page, from, to);
     if scratch.len() < length {
@@ -150,7 +150,7 @@ fn copied(page: &[u8], from: usize, to: usize, scratch: &mut [u8]) -> Body
 // Where the body of the asking scan is. Where no line prefix stands between two of its bytes it is a part of the page, found without a
 // loop; else it is copied to the scratch, whose other bytes stay as they are.
 pub fn collect(scan: Scan, page: &[u8], scratch: &mut [u8]) -> Body
-    ensures { λ r. ⌜ collected r (now (scratch .exit)) ≡ collectOf (now (page .entry)) scan (now (scratch .entry)) ⌝ }
+    ensures { λ r. ⌜ collectedBy r (now (scratch .exit)) ≡ collectOf (now (page .entry)) scan (now (scratch .entry)) ⌝ }
 {
     if !is_asked(scan, page.len()) {
         return Body::BadCall;

@@ -3,7 +3,7 @@
 --     mdx_esm ::= word *line *(eol *line)
 --     word ::= 'e' 'x' 'p' 'o' 'r' 't' | 'i' 'm' 'p' 'o' 'r' 't'
 --
--- Document 01, 'ESM': it needs column 1, a clear interrupt flag, a verdict source, the word, then a space. At the page end, or a
+-- docs/SCOPE.md, 'ESM': it needs column 1, a clear interrupt flag, a verdict source, the word, then a space. At the page end, or a
 -- line ending followed by a blank line, it asks.
 use Prim.Native.Nat.{ℕ}
 use mathlib.Core.Bool.{Bool, _&&_}

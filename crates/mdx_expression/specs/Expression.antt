@@ -3,7 +3,7 @@
 --     mdx_expression ::= '{' *(expression_text | expression) '}'
 --     expression_text ::= char - '{' - '}'
 --
--- Document 01, 'Expression, counting' and 'Expression, with verdicts'. Counting is the Rust with no `mdx_expression_parse`.
+-- docs/SCOPE.md, 'Expression, counting' and 'Expression, with verdicts'. Counting is the Rust with no `mdx_expression_parse`.
 use Prim.Native.Nat.{ℕ}
 use mathlib.Core.Bool.{Bool, _||_, _&&_}
 use lib.Dec.{ltb, eqb}

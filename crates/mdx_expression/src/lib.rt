@@ -118,7 +118,7 @@ pub fn inside(b: u16, depth: u32, asks: bool) -> Move
         retry(state::MDX_EXPRESSION_BEFORE, marks)
     } else if b == byte::LEFT_BRACE {
         if asks {
-            eat(state::MDX_EXPRESSION_INSIDE, Marks::Nothing)
+            eat_with(state::MDX_EXPRESSION_INSIDE, Marks::Nothing, Effect::Keep)
         } else {
             eat_with(state::MDX_EXPRESSION_INSIDE, Marks::Nothing, Effect::Deeper)
         }

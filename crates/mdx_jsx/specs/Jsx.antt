@@ -1,4 +1,4 @@
--- What the states of `partial_mdx_jsx.rs` share. Document 01, 'Classes' and 'The answer table': where-numbers and notes.
+-- What the states of `partial_mdx_jsx.rs` share. docs/SCOPE.md, 'Classes' and 'The answer table': where-numbers and notes.
 use Prim.Native.Nat.{ℕ}
 use mathlib.Core.Bool.{Bool, _||_}
 use mathlib.Core.List.{[], _∷_}

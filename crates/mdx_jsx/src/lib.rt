@@ -108,6 +108,9 @@ pub fn start(b: u16, token: u8) -> Move
     }
 }
 
+// `<` and what markdown takes for white space begin no tag, and that is no error.
+const NO_TAG: u8 = state::NOK;
+
 // After `<`. Markdown's own white space here means that there is no tag, as in `1 < 3`.
 //
 //     > | a <B /> c
@@ -116,9 +119,9 @@ pub fn start_after(b: u16) -> Move
     ensures { λ r. ⌜ r ≡ jsx.startAfter b ⌝ }
 {
     if char_class::space_or_tab(b) {
-        retry(state::NOK, Marks::Nothing)
+        retry(NO_TAG, Marks::Nothing)
     } else if b == byte::LINE_FEED {
-        retry(state::NOK, Marks::Nothing)
+        retry(NO_TAG, Marks::Nothing)
     } else {
         whitespace_here(Marks::Nothing, state::MDX_JSX_NAME_BEFORE)
     }

@@ -7,7 +7,7 @@
 --     initializer ::= *whitespace '=' *whitespace value
 --     value ::= double_quoted | single_quoted | expression
 --
--- Document 01, 'Tag': a quoted value ends at the same quote only, spans lines, and drops white space at each later line's head
+-- docs/SCOPE.md, 'Tag': a quoted value ends at the same quote only, spans lines, and drops white space at each later line's head
 -- from its value events; after `=` the plain attribute state returns Retry where the local one returns Next.
 use Prim.Native.Nat.{ℕ}
 use mathlib.Core.Bool.{Bool, _||_}

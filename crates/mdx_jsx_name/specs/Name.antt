@@ -3,7 +3,7 @@
 --     mdx_jsx ::= '<' [closing] [*whitespace name [attributes_after_identifier] [closing]] *whitespace '>'
 --     name ::= identifier [local | members]
 --
--- Document 01, 'Tag': member names refuse `:`, local names refuse `.` and `:`.
+-- docs/SCOPE.md, 'Tag': member names refuse `:`, local names refuse `.` and `:`.
 use Prim.Native.Nat.{ℕ}
 use mathlib.Core.Bool.{Bool, _||_}
 use lib.Dec.{eqb}

@@ -1,4 +1,4 @@
--- When a page gets each of its four answers, both ways (document 01, the answer table, rows 2, 3 and 4):
+-- When a page gets each of its four answers, both ways (docs/SCOPE.md, the answer table, rows 2, 3 and 4):
 --     long-is     TooLong: the page is longer than the limit
 --     start-is    BadStart: it is not, and the start is past its end, or it does not lie inside the lent bytes
 --     text-is     BadText o: it is admitted, and o is the first fault of its text
@@ -16,7 +16,7 @@ use Rattle.page.specs.declared.Checked.{Checked}
 use Rattle.page.specs.declared.Checked.the-variants.{Good, TooLong, BadStart, BadText}
 use Rattle.page.specs.Text.{readText, GoodText, FirstFault}
 use Rattle.base.specs.Page.{pageLimit}
-use Rattle.page.specs.Page.{inside, pageOf, Admitted, pageCheck}
+use Rattle.page.specs.Page.{liesInside, pageOf, Admitted, pageCheck}
 use Rattle.page.proofs.Meaning.{good-is, bad-is, never-long, never-start}
 
 module _ (bytes : List ℕ) (at n start : ℕ) where
@@ -29,14 +29,14 @@ module _ (bytes : List ℕ) (at n start : ℕ) where
       (Admitted bytes at n start → P (readText (pageOf bytes at n))) → P (pageCheck bytes at n start)
   by-answers P long misplaced admitted =
       if-is Checked P (ltb pageLimit n) TooLong
-      (if ltb n start then BadStart else if inside (length bytes) at n then readText (pageOf bytes at n) else BadStart)
+      (if ltb n start then BadStart else if liesInside (length bytes) at n then readText (pageOf bytes at n) else BadStart)
       (λ e. long (ltb-true pageLimit n e))
       (λ e.
       let short = ltb-false pageLimit n e in
-      if-is Checked P (ltb n start) BadStart (if inside (length bytes) at n then readText (pageOf bytes at n) else BadStart)
+      if-is Checked P (ltb n start) BadStart (if liesInside (length bytes) at n then readText (pageOf bytes at n) else BadStart)
       (λ s. misplaced (short, inl (ltb-true n start s)))
       (λ s.
-      if-is Checked P (inside (length bytes) at n) (readText (pageOf bytes at n)) BadStart
+      if-is Checked P (liesInside (length bytes) at n) (readText (pageOf bytes at n)) BadStart
       (λ l. admitted (record { short = short; starts = ltb-false n start s; lies = leb-true (at + n) (length bytes) l }))
       (λ l. misplaced (short, inr (leb-false (at + n) (length bytes) l)))))
 

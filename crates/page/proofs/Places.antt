@@ -10,7 +10,7 @@ use lib.Dec.{ltb, lit<}
 use lib.ListN.{length, getD, drop, drop-of-length-le}
 use lib.Seq.{drop-cons}
 use Rattle.base.specs.If.{if_then_else_, if-yes, case, and-yes, and-no, and-no′}
-use Rattle.base.specs.Range.{inside}
+use Rattle.base.specs.Range.{is-within}
 use Rattle.page.specs.Utf8.{Range, Row, holds, holdsAt, table, begins, sequence}
 use Rattle.page.proofs.Rows.{listed, by-row, past-the-rows, between-rows, row-nonempty}
 
@@ -52,7 +52,7 @@ module _ (page : List ℕ) (p : ℕ) (here : p < length page) where
   pub ascii-at : getD page p 0 < 0x80 → sequence (drop p page) ≡ 1
   unfolding table begins
   ascii-at h =
-      row-at (0x00, 0x7F) [] (listed 0 (lit< tt)) (inside 0x00 0x7F (getD page p 0) (omega arith) (omega arith))
+      row-at (0x00, 0x7F) [] (listed 0 (lit< tt)) (is-within 0x00 0x7F (getD page p 0) (omega arith) (omega arith))
       ∙ sym (if-yes ℕ (begins [] (drop (p + 1) page)) 1 1 0 refl refl)
 
 -- the row's first range, and the ranges after it
@@ -70,7 +70,7 @@ module _ (page : List ℕ) (p byte : ℕ) (here : p < length page) (is : byte �
       (n : ℕ) → n ≡ (if begins (rest row) (drop (p + 1) page) then length row else 0) → n ≡ sequence (drop p page)
   by-listed [] m low high n e = absurd (row-nonempty m)
   by-listed (r ∷ row) m low high n e =
-      e ∙ sym (row-at page p here r row m (inside (r .0) (r .1) (getD page p 0) (omega arith) (omega arith)))
+      e ∙ sym (row-at page p here r row m (is-within (r .0) (r .1) (getD page p 0) (omega arith) (omega arith)))
 
   pub by-number : (k : ℕ) → k < length table → first (getD table k []) .0 ≤ byte → byte ≤ first (getD table k []) .1 →
       (n : ℕ) → n ≡ (if begins (rest (getD table k [])) (drop (p + 1) page) then length (getD table k []) else 0) →

@@ -1,4 +1,4 @@
--- A page that is handed over (document 01, the answer table, rows 2, 3 and 4).
+-- A page that is handed over (docs/SCOPE.md, the answer table, rows 2, 3 and 4).
 use Prim.Native.Nat.{ℕ, _+_, _≤_}
 use mathlib.Core.Bool.{Bool}
 use mathlib.Core.List.{List}
@@ -10,9 +10,9 @@ use Rattle.page.specs.declared.Checked.{Checked}
 use Rattle.page.specs.declared.Checked.the-variants.{TooLong, BadStart}
 use Rattle.page.specs.Text.{readText}
 
--- the part that begins at `at` and is n long lies inside lent bytes
-abbrev pub inside : ℕ → ℕ → ℕ → Bool
-inside lent at n = leb (at + n) lent
+-- the part that begins at `at` and is n long lies inside so many lent bytes
+abbrev pub liesInside : ℕ → ℕ → ℕ → Bool
+liesInside lent at n = leb (at + n) lent
 
 abbrev pub pageOf : List ℕ → ℕ → ℕ → List ℕ
 pageOf bytes at n = take n (drop at bytes)
@@ -28,5 +28,5 @@ abbrev pub pageCheck : List ℕ → ℕ → ℕ → ℕ → Checked
 pageCheck bytes at n start =
     if ltb pageLimit n then TooLong
     else if ltb n start then BadStart
-    else if inside (length bytes) at n then readText (pageOf bytes at n)
+    else if liesInside (length bytes) at n then readText (pageOf bytes at n)
     else BadStart

@@ -1,4 +1,4 @@
--- The text of a page (document 01, the answer table, row 4): well-formed UTF-8 with no carriage return. The fault is the
+-- The text of a page (docs/SCOPE.md, the answer table, row 4): well-formed UTF-8 with no carriage return. The fault is the
 -- earlier of the first byte 13 and the first byte of the first ill-formed sequence.
 use Prim.Native.Nat.{ℕ, zero, suc, _+_, _-_, _<_}
 use mathlib.Core.Path.{_≡_}

@@ -7,7 +7,7 @@ ghost use mathlib.Core.List.{[], _∷_};
 ghost use Rattle.base.specs.If.{if_then_else_};
 ghost use Rattle.page.specs.Utf8.{holdsAt, begins, tail, sequence};
 ghost use Rattle.page.specs.Text.{readText};
-ghost use Rattle.page.specs.Page.{inside, pageCheck};
+ghost use Rattle.page.specs.Page.{liesInside, pageCheck};
 
 // The byte that no page may hold, though UTF-8 has it.
 const CARRIAGE_RETURN: u8 = 13;
@@ -26,7 +26,7 @@ pub enum Checked {
 // The page that begins at `at` and is `length` long lies inside `lent` bytes. The difference is
 // taken, and not the sum, which could wrap.
 pub fn lies_inside(lent: usize, at: usize, length: usize) -> bool
-    ensures { λ r. ⌜ r ≡ inside lent at length ⌝ }
+    ensures { λ r. ⌜ r ≡ liesInside lent at length ⌝ }
 {
     if lent < at {
         return false;

@@ -1,4 +1,4 @@
--- Hex digits put two by two; and the three ways in which a field of bytes is put.
+-- Hex digits put two by two; and the ways in which a field of bytes is put.
 use Prim.Native.Nat.{ℕ, suc, _+_, _-_, _*_, _/_, _%_, _≤_, _<_}
 use native.Mathlib.Numerals.{add-one}
 use native.Mathlib.Omega.{arith}
@@ -8,8 +8,8 @@ use lib.ListN.{length, drop, getD, set, drop-of-length-le}
 use lib.Seq.{sets, drop-cons}
 use Rattle.base.specs.Byte.{hyphen}
 use Rattle.report.specs.Hex.{digitOf, hexOf, fieldOf}
-use Rattle.report.specs.Put.{Puts}
-use Rattle.report.proofs.Copied.{past, no-room, put}
+use Rattle.report.specs.Put.{outcome, inRoom, putOf}
+use Rattle.report.proofs.Puts.{no-room, all-put}
 
 pub length-hex : (bytes : List ℕ) → length (hexOf bytes) ≡ length bytes * 2
 unfolding hexOf
@@ -40,16 +40,12 @@ unfolding fieldOf
 some-bytes [] e = absurd (e refl)
 some-bytes (b ∷ t) e = refl
 
-module _ (out bytes : List ℕ) (at : ℕ) (some : length bytes ≡ 0 → ⊥) where
+module _ (out bytes : List ℕ) (at a : ℕ) (some : length bytes ≡ 0 → ⊥) (e : a ≡ inRoom (length out) at) where
   field-length : length (fieldOf bytes) ≡ length bytes * 2
   field-length = rw (← some-bytes bytes some) (length-hex bytes)
 
-  pub field-past : length out < at → Puts out at (fieldOf bytes) (length out) out
-  field-past h = past out (fieldOf bytes) at h
+  pub field-no-room : (length out - a) / 2 < length bytes → outcome a out ≡ putOf out at (fieldOf bytes ∷ [])
+  field-no-room h = no-room out at a e (fieldOf bytes) (rw field-length (omega arith))
 
-  module _ (inside : at ≤ length out) where
-    pub field-no-room : (length out - at) / 2 < length bytes → Puts out at (fieldOf bytes) at out
-    field-no-room h = no-room out (fieldOf bytes) at inside (rw field-length (omega arith))
-
-    pub field-put : (b : List ℕ) → length bytes ≤ (length out - at) / 2 → b ≡ sets out at (hexOf bytes) → Puts out at (fieldOf bytes) (at + length bytes * 2) b
-    field-put b h e = rw (← some-bytes bytes some, ← length-hex bytes) (put out (hexOf bytes) at inside b (rw length-hex (omega arith)) e)
+  pub field-put : (b : List ℕ) → length bytes ≤ (length out - a) / 2 → b ≡ sets out a (hexOf bytes) → outcome (a + length bytes * 2) b ≡ putOf out at (fieldOf bytes ∷ [])
+  field-put b h s = rw (← some-bytes bytes some, ← length-hex bytes) (all-put out at a e (hexOf bytes) b (rw length-hex (omega arith)) s)

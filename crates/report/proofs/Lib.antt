@@ -1,5 +1,9 @@
+pub mod Puts
 pub mod Copied
 pub mod Digits
+pub mod Decimals
 pub mod Names
 pub mod Lowering
 pub mod Room
+pub mod Each
+pub mod Telling

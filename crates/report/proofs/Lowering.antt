@@ -1,14 +1,14 @@
 -- A text in lower case up to a place, and as it was from there on.
 use Prim.Native.Nat.{ℕ, _+_, _≤_, _<_}
 use native.Mathlib.Omega.{arith}
-use mathlib.Core.Path.{_≡_, ap, _∙_}
+use mathlib.Core.Path.{_≡_, sym, ap, _∙_}
 use mathlib.Core.List.{List}
 use borrow.Author.Tests.{eqb-true, eqb-false}
 use lib.Dec.{eqb}
-use lib.ListN.{length, getD, set, length-set}
-use lib.Seq.{getD-set-same, getD-set-other}
-use Rattle.base.specs.If.{case}
-use Rattle.report.specs.Small.{smallOf, InSmall}
+use lib.ListN.{length, getD, set, length-set, length-map, List·getD-map}
+use lib.Seq.{getD-set-same, getD-set-other, ext-getD}
+use Rattle.base.specs.If.{if_then_else_, case}
+use Rattle.report.specs.Small.{smallOf, inSmall}
 
 pub record UpTo (s t : List ℕ) (i : ℕ) : Type 0 where
   pub inside : i ≤ length s
@@ -39,5 +39,7 @@ one-more s t i v u h e =
           getD-set-other t i k v 0 (λ q. omega arith) ∙ u .left k bound;
     }
 
-pub all-small : (s t : List ℕ) (i : ℕ) → UpTo s t i → length t ≤ i → InSmall s t
-all-small s t i u h = record { long = u .long; each = λ k l. u .passed k (omega (arith, u .long)) }
+pub all-small : (s t : List ℕ) (i : ℕ) → UpTo s t i → length t ≤ i → t ≡ inSmall s
+unfolding smallOf if_then_else_
+all-small s t i u h =
+    ext-getD 0 t (inSmall s) (u .long ∙ sym (length-map s smallOf)) (λ k l. u .passed k (omega (arith, u .long)) ∙ sym (List·getD-map smallOf s k 0))

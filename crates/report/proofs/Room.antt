@@ -2,7 +2,8 @@
 use Prim.Native.Nat.{ℕ, _-_, _≤_, _<_}
 use mathlib.Core.Path.{_≡_}
 use Rattle.base.specs.If.{picks}
-use Rattle.report.specs.Output.{inRoom, freePlace}
+use Rattle.report.specs.Output.{freePlace}
+use Rattle.report.specs.Put.{inRoom}
 
 module _ (room used count at : ℕ) (e : at ≡ inRoom room used) where
   pub written-out : room - at < count → 0 ≡ freePlace room used count

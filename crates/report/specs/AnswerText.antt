@@ -1,11 +1,11 @@
 -- The names of the answers, as bytes; and an answer's text, its name and values.
 use Prim.Native.Nat.{ℕ}
-use mathlib.Core.List.{List, [], _∷_}
+use mathlib.Core.List.{List, [], _∷_, _++_}
 use lib.Dec.{ltb}
 use Rattle.base.specs.Table.{find}
 use Rattle.report.specs.declared.answers.Told.{Told}
+use Rattle.report.specs.Decimal.{valuePieces}
 use Rattle.report.specs.Name.{unknown}
-use Rattle.report.specs.Put.{Bytes, Value, Then}
 
 abbrev pub answerNames : List (ℕ × List ℕ)
 answerNames =
@@ -47,8 +47,8 @@ unfoldable pub answerName : ℕ → List ℕ
 answerName n = find n answerNames unknown
 
 -- the values that it carries, a space before each
-abbrev pub Values : Told → List ℕ → ℕ → ℕ → List ℕ → Type 0
-Values t = Then (Value (ltb 0 (t .values)) (t .first)) (Then (Value (ltb 1 (t .values)) (t .second)) (Value (ltb 2 (t .values)) (t .third)))
+abbrev pub valuesPieces : Told → List (List ℕ)
+valuesPieces t = valuePieces (ltb 0 (t .values)) (t .first) ++ (valuePieces (ltb 1 (t .values)) (t .second) ++ valuePieces (ltb 2 (t .values)) (t .third))
 
-abbrev pub AnswerText : Told → List ℕ → ℕ → ℕ → List ℕ → Type 0
-AnswerText t = Then (Bytes (answerName (t .number))) (Values t)
+abbrev pub answerPieces : Told → List (List ℕ)
+answerPieces t = answerName (t .number) ∷ valuesPieces t

@@ -1,8 +1,9 @@
 pub mod Put
+pub mod Decimal
 pub mod Hex
 pub mod Small
 pub mod Name
+pub mod EventText
 pub mod Output
-pub mod Event
 pub mod Told
 pub mod AnswerText

@@ -1,8 +1,7 @@
 // The answers by number and values, as the answer table has them.
 use scan::Answer;
 ghost use mathlib.Core.Path.{_≡_};
-ghost use Rattle.scan.specs.Answer.{numberOf};
-ghost use Rattle.report.specs.Told.{firstOf, secondOf, thirdOf, eventsOf, stepsOf, countOf, countedOf, toldOf};
+ghost use Rattle.report.specs.Told.{carryingTold, bareTold, oneTold, twoTold, threeTold, countingTold, toldOf};
 
 // An answer's number, the values that it carries in the table's order, and its events and steps. What it does not carry is
 // 0. Asking, Paused and Kept, which the table does not number, are 31 to 33.
@@ -20,192 +19,109 @@ pub struct Told {
 pub fn tell(answer: Answer) -> Told
     ensures { λ r. ⌜ r ≡ toldOf answer ⌝ }
 {
+    match answer {
+        Answer::Done { end, events, steps } => counting(one(0, end), events, steps),
+        Answer::Nok { events, steps } => counting(bare(1), events, steps),
+        Answer::TooLong => bare(2),
+        Answer::BadStart => bare(3),
+        Answer::BadText { offset } => one(4, offset),
+        Answer::NotAscii {
+            place,
+            events,
+            steps,
+        } => counting(one(5, place), events, steps),
+        Answer::Eof {
+            place,
+            site,
+            events,
+            steps,
+        } => counting(two(6, place, site as usize), events, steps),
+        Answer::Unexpected {
+            place,
+            site,
+            note,
+            events,
+            steps,
+        } => counting(three(7, place, site as usize, note as usize), events, steps),
+        Answer::VerdictError {
+            place,
+            number,
+            events,
+            steps,
+        } => counting(two(8, place, number as usize), events, steps),
+        Answer::VerdictEof {
+            place,
+            number,
+            events,
+            steps,
+        } => counting(two(9, place, number as usize), events, steps),
+        Answer::Full {
+            place,
+            events,
+            steps,
+        } => counting(one(10, place), events, steps),
+        Answer::BadCall => bare(12),
+        Answer::Asking {
+            place,
+            events,
+            steps,
+        } => counting(one(31, place), events, steps),
+        Answer::Paused {
+            place,
+            events,
+            steps,
+        } => counting(one(32, place), events, steps),
+        Answer::Kept => bare(33),
+    }
+}
+
+fn bare(number: u8) -> Told
+    ensures { λ r. ⌜ r ≡ bareTold number ⌝ }
+{
+    carrying(number, 0, 0, 0, 0)
+}
+
+fn one(number: u8, first: usize) -> Told
+    ensures { λ r. ⌜ r ≡ oneTold number first ⌝ }
+{
+    carrying(number, 1, first, 0, 0)
+}
+
+fn two(number: u8, first: usize, second: usize) -> Told
+    ensures { λ r. ⌜ r ≡ twoTold number first second ⌝ }
+{
+    carrying(number, 2, first, second, 0)
+}
+
+fn three(number: u8, first: usize, second: usize, third: usize) -> Told
+    ensures { λ r. ⌜ r ≡ threeTold number first second third ⌝ }
+{
+    carrying(number, 3, first, second, third)
+}
+
+// An answer that carries so many values, and no events and steps.
+fn carrying(number: u8, values: u8, first: usize, second: usize, third: usize) -> Told
+    ensures { λ r. ⌜ r ≡ carryingTold number values first second third ⌝ }
+{
     Told {
-        number: number_of(answer),
-        values: values_of(answer),
-        first: first_of(answer),
-        second: second_of(answer),
-        third: third_of(answer),
-        counted: counted_of(answer),
-        events: events_of(answer),
-        steps: steps_of(answer),
+        number,
+        values,
+        first,
+        second,
+        third,
+        counted: false,
+        events: 0,
+        steps: 0,
     }
 }
 
-fn number_of(answer: Answer) -> u8
-    ensures { λ r. ⌜ r ≡ numberOf answer ⌝ }
+// The same answer with its events and steps.
+fn counting(told: Told, events: usize, steps: usize) -> Told
+    ensures { λ r. ⌜ r ≡ countingTold told events steps ⌝ }
 {
-    match answer {
-        Answer::Done { .. } => 0,
-        Answer::Nok { .. } => 1,
-        Answer::TooLong => 2,
-        Answer::BadStart => 3,
-        Answer::BadText { .. } => 4,
-        Answer::NotAscii { .. } => 5,
-        Answer::Eof { .. } => 6,
-        Answer::Unexpected { .. } => 7,
-        Answer::VerdictError { .. } => 8,
-        Answer::VerdictEof { .. } => 9,
-        Answer::Full { .. } => 10,
-        Answer::BadCall => 12,
-        Answer::Asking { .. } => 31,
-        Answer::Paused { .. } => 32,
-        Answer::Kept => 33,
-    }
-}
-
-// How many values it carries, beside events and steps.
-fn values_of(answer: Answer) -> u8
-    ensures { λ r. ⌜ r ≡ countOf answer ⌝ }
-{
-    match answer {
-        Answer::Done { .. } => 1,
-        Answer::Nok { .. } => 0,
-        Answer::TooLong => 0,
-        Answer::BadStart => 0,
-        Answer::BadText { .. } => 1,
-        Answer::NotAscii { .. } => 1,
-        Answer::Eof { .. } => 2,
-        Answer::Unexpected { .. } => 3,
-        Answer::VerdictError { .. } => 2,
-        Answer::VerdictEof { .. } => 2,
-        Answer::Full { .. } => 1,
-        Answer::BadCall => 0,
-        Answer::Asking { .. } => 1,
-        Answer::Paused { .. } => 1,
-        Answer::Kept => 0,
-    }
-}
-
-// Whether it carries events and steps.
-fn counted_of(answer: Answer) -> bool
-    ensures { λ r. ⌜ r ≡ countedOf answer ⌝ }
-{
-    match answer {
-        Answer::Done { .. } => true,
-        Answer::Nok { .. } => true,
-        Answer::TooLong => false,
-        Answer::BadStart => false,
-        Answer::BadText { .. } => false,
-        Answer::NotAscii { .. } => true,
-        Answer::Eof { .. } => true,
-        Answer::Unexpected { .. } => true,
-        Answer::VerdictError { .. } => true,
-        Answer::VerdictEof { .. } => true,
-        Answer::Full { .. } => true,
-        Answer::BadCall => false,
-        Answer::Asking { .. } => true,
-        Answer::Paused { .. } => true,
-        Answer::Kept => false,
-    }
-}
-
-fn first_of(answer: Answer) -> usize
-    ensures { λ r. ⌜ r ≡ firstOf answer ⌝ }
-{
-    match answer {
-        Answer::Done { end, .. } => end,
-        Answer::Nok { .. } => 0,
-        Answer::TooLong => 0,
-        Answer::BadStart => 0,
-        Answer::BadText { offset } => offset,
-        Answer::NotAscii { place, .. } => place,
-        Answer::Eof { place, .. } => place,
-        Answer::Unexpected { place, .. } => place,
-        Answer::VerdictError { place, .. } => place,
-        Answer::VerdictEof { place, .. } => place,
-        Answer::Full { place, .. } => place,
-        Answer::BadCall => 0,
-        Answer::Asking { place, .. } => place,
-        Answer::Paused { place, .. } => place,
-        Answer::Kept => 0,
-    }
-}
-
-fn second_of(answer: Answer) -> usize
-    ensures { λ r. ⌜ r ≡ secondOf answer ⌝ }
-{
-    match answer {
-        Answer::Done { .. } => 0,
-        Answer::Nok { .. } => 0,
-        Answer::TooLong => 0,
-        Answer::BadStart => 0,
-        Answer::BadText { .. } => 0,
-        Answer::NotAscii { .. } => 0,
-        Answer::Eof { site, .. } => site as usize,
-        Answer::Unexpected { site, .. } => site as usize,
-        Answer::VerdictError { number, .. } => number as usize,
-        Answer::VerdictEof { number, .. } => number as usize,
-        Answer::Full { .. } => 0,
-        Answer::BadCall => 0,
-        Answer::Asking { .. } => 0,
-        Answer::Paused { .. } => 0,
-        Answer::Kept => 0,
-    }
-}
-
-fn third_of(answer: Answer) -> usize
-    ensures { λ r. ⌜ r ≡ thirdOf answer ⌝ }
-{
-    match answer {
-        Answer::Done { .. } => 0,
-        Answer::Nok { .. } => 0,
-        Answer::TooLong => 0,
-        Answer::BadStart => 0,
-        Answer::BadText { .. } => 0,
-        Answer::NotAscii { .. } => 0,
-        Answer::Eof { .. } => 0,
-        Answer::Unexpected { note, .. } => note as usize,
-        Answer::VerdictError { .. } => 0,
-        Answer::VerdictEof { .. } => 0,
-        Answer::Full { .. } => 0,
-        Answer::BadCall => 0,
-        Answer::Asking { .. } => 0,
-        Answer::Paused { .. } => 0,
-        Answer::Kept => 0,
-    }
-}
-
-fn events_of(answer: Answer) -> usize
-    ensures { λ r. ⌜ r ≡ eventsOf answer ⌝ }
-{
-    match answer {
-        Answer::Done { events, .. } => events,
-        Answer::Nok { events, .. } => events,
-        Answer::TooLong => 0,
-        Answer::BadStart => 0,
-        Answer::BadText { .. } => 0,
-        Answer::NotAscii { events, .. } => events,
-        Answer::Eof { events, .. } => events,
-        Answer::Unexpected { events, .. } => events,
-        Answer::VerdictError { events, .. } => events,
-        Answer::VerdictEof { events, .. } => events,
-        Answer::Full { events, .. } => events,
-        Answer::BadCall => 0,
-        Answer::Asking { events, .. } => events,
-        Answer::Paused { events, .. } => events,
-        Answer::Kept => 0,
-    }
-}
-
-fn steps_of(answer: Answer) -> usize
-    ensures { λ r. ⌜ r ≡ stepsOf answer ⌝ }
-{
-    match answer {
-        Answer::Done { steps, .. } => steps,
-        Answer::Nok { steps, .. } => steps,
-        Answer::TooLong => 0,
-        Answer::BadStart => 0,
-        Answer::BadText { .. } => 0,
-        Answer::NotAscii { steps, .. } => steps,
-        Answer::Eof { steps, .. } => steps,
-        Answer::Unexpected { steps, .. } => steps,
-        Answer::VerdictError { steps, .. } => steps,
-        Answer::VerdictEof { steps, .. } => steps,
-        Answer::Full { steps, .. } => steps,
-        Answer::BadCall => 0,
-        Answer::Asking { steps, .. } => steps,
-        Answer::Paused { steps, .. } => steps,
-        Answer::Kept => 0,
-    }
+    let mut counted = told;
+    counted.counted = true;
+    counted.events = events;
+    counted.steps = steps;
+    counted
 }

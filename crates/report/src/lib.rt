@@ -4,7 +4,8 @@
 // Each function puts its text at a place of the buffer and answers the place past it. A piece of text that does not fit is not
 // put there at all, and the place stays. A place past the buffer's end counts as its end.
 mod answers;
-mod events;
+mod kinds;
+mod marks;
 mod output;
 mod pieces;
 mod small;
@@ -12,10 +13,9 @@ mod wording;
 
 pub use answers::Told;
 pub use answers::tell;
-pub use events::event_line;
-pub use events::event_mark;
-pub use events::kind_name;
-pub use events::kind_of;
+pub use kinds::kind_name;
+pub use marks::event_line;
+pub use marks::event_mark;
 pub use output::flush;
 pub use output::make_room;
 pub use output::put;

@@ -3,31 +3,27 @@
 //
 // What was written out before can't be taken back, and no contract says what a program's output is: the contracts say what is
 // in the buffer.
-use crate::events::event_line;
-use crate::events::event_mark;
+use crate::marks::event_line;
+use crate::marks::event_mark;
 use crate::pieces::hex;
+use crate::pieces::in_room;
 use crate::pieces::number;
 use crate::pieces::text;
 use libc::STDOUT_FILENO;
 ghost use mathlib.Core.Path.{_≡_};
-ghost use Prim.Native.Nat.{_*_, _≤_};
+ghost use mathlib.Core.List.{[], _∷_};
+ghost use Prim.Native.Nat.{_≤_};
 ghost use lib.ListN.{length};
-ghost use Rattle.report.specs.Event.{Mark, EventLine, Events, eventsIn};
+ghost use Rattle.report.specs.Decimal.{decimal};
+ghost use Rattle.report.specs.EventText.{markPieces, linePieces};
 ghost use Rattle.report.specs.Hex.{fieldOf};
-ghost use Rattle.report.specs.Output.{inRoom, freePlace, fieldRoom};
-ghost use Rattle.report.specs.Put.{Puts, PutsNumber};
+ghost use Rattle.report.specs.Output.{freePlace, fieldRoom, numberRoom, putEach, firstEvents};
+ghost use Rattle.report.specs.Put.{outcome, putOf};
 
 // More than an event takes, and as much as a number takes.
 const EVENT_ROOM: usize = 256;
 
 const NUMBER_ROOM: usize = 20;
-
-fn in_room(room: usize, used: usize) -> usize
-    ensures { λ r. ⌜ r ≡ inRoom room used ⌝ }
-    ensures { λ r. ⌜ r ≤ room ⌝ }
-{
-    if used < room { used } else { room }
-}
 
 // The place to go on at: the buffer is written out where so many bytes do not fit any more.
 pub fn make_room(out: &[u8], used: usize, count: usize) -> usize
@@ -50,7 +46,7 @@ pub fn flush(out: &[u8], used: usize) {
 
 // The bytes go to the buffer; what does not fit there even when it is empty is written out at once.
 pub fn put(out: &mut [u8], used: usize, bytes: &[u8]) -> usize
-    ensures { λ r. ⌜ Puts (now (out .entry)) (freePlace (length (now (out .entry))) used (length (now (bytes .entry)))) (now (bytes .entry)) r (now (out .exit)) ⌝ }
+    ensures { λ r. ⌜ outcome r (now (out .exit)) ≡ putOf (now (out .entry)) (freePlace (length (now (out .entry))) used (length (now (bytes .entry)))) (now (bytes .entry) ∷ []) ⌝ }
 {
     let at = make_room(out, used, bytes.len());
     if out.len() < bytes.len() {
@@ -60,7 +56,7 @@ pub fn put(out: &mut [u8], used: usize, bytes: &[u8]) -> usize
 }
 
 pub fn put_number(out: &mut [u8], used: usize, n: u64) -> usize
-    ensures { λ r. ⌜ PutsNumber (now (out .entry)) (freePlace (length (now (out .entry))) used 20) n r (now (out .exit)) ⌝ }
+    ensures { λ r. ⌜ outcome r (now (out .exit)) ≡ putOf (now (out .entry)) (freePlace (length (now (out .entry))) used numberRoom) (decimal n ∷ []) ⌝ }
 {
     let at = make_room(out, used, NUMBER_ROOM);
     number(out, at, n)
@@ -68,7 +64,7 @@ pub fn put_number(out: &mut [u8], used: usize, n: u64) -> usize
 
 // A field of bytes. One that does not fit even into the empty buffer is not put.
 pub fn put_hex(out: &mut [u8], used: usize, bytes: &[u8]) -> usize
-    ensures { λ r. ⌜ Puts (now (out .entry)) (freePlace (length (now (out .entry))) used (fieldRoom (length (now (out .entry))) (length (now (bytes .entry))))) (fieldOf (now (bytes .entry))) r (now (out .exit)) ⌝ }
+    ensures { λ r. ⌜ outcome r (now (out .exit)) ≡ putOf (now (out .entry)) (freePlace (length (now (out .entry))) used (fieldRoom (length (now (out .entry))) (length (now (bytes .entry))))) (fieldOf (now (bytes .entry)) ∷ []) ⌝ }
 {
     let at = make_room(out, used, field_room(out.len(), bytes.len()));
     hex(out, at, bytes)
@@ -89,37 +85,30 @@ fn field_room(room: usize, count: usize) -> usize
 
 // A mark for each of the first `count` events, as far as there are words.
 pub fn put_marks(out: &mut [u8], used: usize, words: &[u32], count: usize) -> usize
-    ensures { λ r. ⌜ Events Mark (now (words .entry)) (now (out .entry)) used (eventsIn count (length (now (words .entry)))) r (now (out .exit)) ⌝ }
+    ensures { λ r. ⌜ outcome r (now (out .exit)) ≡ putEach markPieces (now (out .entry)) used (firstEvents (now (words .entry)) count) ⌝ }
 {
-    let events = events_in(count, words.len());
+    let most = events::room::held(count, words.len());
     let mut at = used;
-    let mut i = 0;
-    while i < events {
+    let mut k = 0;
+    while k < most {
         let place = make_room(out, at, EVENT_ROOM);
-        at = event_mark(out, place, words[i * 2], words[i * 2 + 1]);
-        i += 1;
+        at = event_mark(out, place, events::read(words, k));
+        k += 1;
     }
     at
 }
 
 // A line for each of them.
 pub fn put_event_lines(out: &mut [u8], used: usize, words: &[u32], count: usize) -> usize
-    ensures { λ r. ⌜ Events EventLine (now (words .entry)) (now (out .entry)) used (eventsIn count (length (now (words .entry)))) r (now (out .exit)) ⌝ }
+    ensures { λ r. ⌜ outcome r (now (out .exit)) ≡ putEach linePieces (now (out .entry)) used (firstEvents (now (words .entry)) count) ⌝ }
 {
-    let events = events_in(count, words.len());
+    let most = events::room::held(count, words.len());
     let mut at = used;
-    let mut i = 0;
-    while i < events {
+    let mut k = 0;
+    while k < most {
         let place = make_room(out, at, EVENT_ROOM);
-        at = event_line(out, place, words[i * 2], words[i * 2 + 1]);
-        i += 1;
+        at = event_line(out, place, events::read(words, k));
+        k += 1;
     }
     at
-}
-
-fn events_in(count: usize, words: usize) -> usize
-    ensures { λ r. ⌜ r ≡ eventsIn count words ⌝ }
-    ensures { λ r. ⌜ r * 2 ≤ words ⌝ }
-{
-    if count < words / 2 { count } else { words / 2 }
 }

@@ -1,23 +1,32 @@
 // Bytes, numbers and hex digits.
 ghost use mathlib.Core.Path.{_≡_};
+ghost use mathlib.Core.List.{[], _∷_};
 ghost use Prim.Native.Nat.{_+_, _*_, _≤_, _<_};
 ghost use lib.ListN.{length};
 ghost use lib.Seq.{sets};
+ghost use Rattle.report.specs.Decimal.{decimal, spacedPieces, valuePieces};
 ghost use Rattle.report.specs.Hex.{digitOf, hexOf, fieldOf};
-ghost use Rattle.report.specs.Put.{Puts, PutsNumber, Spaced, Value};
+ghost use Rattle.report.specs.Put.{inRoom, outcome, putOf};
+
+// A place past the end counts as the end.
+pub fn in_room(room: usize, at: usize) -> usize
+    ensures { λ r. ⌜ r ≡ inRoom room at ⌝ }
+    ensures { λ r. ⌜ r ≤ room ⌝ }
+{
+    if at < room { at } else { room }
+}
 
 // The bytes, whole or not at all.
 pub fn text(out: &mut [u8], at: usize, bytes: &[u8]) -> usize
-    ensures { λ r. ⌜ Puts (now (out .entry)) at (now (bytes .entry)) r (now (out .exit)) ⌝ }
+    ensures { λ r. ⌜ r ≤ length (now (out .exit)) ⌝ }
+    ensures { λ r. ⌜ outcome r (now (out .exit)) ≡ putOf (now (out .entry)) at (now (bytes .entry) ∷ []) ⌝ }
 {
-    if out.len() < at {
-        return out.len();
+    let place = in_room(out.len(), at);
+    if out.len() - place < bytes.len() {
+        return place;
     }
-    if out.len() - at < bytes.len() {
-        return at;
-    }
-    copy(out, at, bytes);
-    at + bytes.len()
+    copy(out, place, bytes);
+    place + bytes.len()
 }
 
 fn copy(out: &mut [u8], at: usize, bytes: &[u8])
@@ -33,7 +42,7 @@ fn copy(out: &mut [u8], at: usize, bytes: &[u8])
 
 // The number's decimal digits, as few as it has.
 pub fn number(out: &mut [u8], at: usize, n: u64) -> usize
-    ensures { λ r. ⌜ PutsNumber (now (out .entry)) at n r (now (out .exit)) ⌝ }
+    ensures { λ r. ⌜ outcome r (now (out .exit)) ≡ putOf (now (out .entry)) at (decimal n ∷ []) ⌝ }
 {
     let mut digits = [0u8; 20];
     let count = io::decimal(n, &mut digits);
@@ -43,7 +52,7 @@ pub fn number(out: &mut [u8], at: usize, n: u64) -> usize
 // A space and the number.
 pub fn spaced(out: &mut [u8], at: usize, n: usize) -> usize
     ensures { λ r. ⌜ r ≤ length (now (out .exit)) ⌝ }
-    ensures { λ r. ⌜ Spaced n (now (out .entry)) at r (now (out .exit)) ⌝ }
+    ensures { λ r. ⌜ outcome r (now (out .exit)) ≡ putOf (now (out .entry)) at (spacedPieces n) ⌝ }
 {
     let past = text(out, at, b" ");
     number(out, past, n as u64)
@@ -51,30 +60,27 @@ pub fn spaced(out: &mut [u8], at: usize, n: usize) -> usize
 
 // The same, or nothing where the number is not carried.
 pub fn value(out: &mut [u8], at: usize, carried: bool, n: usize) -> usize
-    ensures { λ r. ⌜ r ≤ length (now (out .exit)) ⌝ }
-    ensures { λ r. ⌜ Value carried n (now (out .entry)) at r (now (out .exit)) ⌝ }
+    ensures { λ r. ⌜ outcome r (now (out .exit)) ≡ putOf (now (out .entry)) at (valuePieces carried n) ⌝ }
 {
     if carried {
         return spaced(out, at, n);
     }
-    text(out, at, b"")
+    in_room(out.len(), at)
 }
 
 // A field of bytes: two hex digits for each, or `-` where there are none. It is put whole or not at all.
 pub fn hex(out: &mut [u8], at: usize, bytes: &[u8]) -> usize
-    ensures { λ r. ⌜ Puts (now (out .entry)) at (fieldOf (now (bytes .entry))) r (now (out .exit)) ⌝ }
+    ensures { λ r. ⌜ outcome r (now (out .exit)) ≡ putOf (now (out .entry)) at (fieldOf (now (bytes .entry)) ∷ []) ⌝ }
 {
     if bytes.len() == 0 {
         return text(out, at, b"-");
     }
-    if out.len() < at {
-        return out.len();
+    let place = in_room(out.len(), at);
+    if (out.len() - place) / 2 < bytes.len() {
+        return place;
     }
-    if (out.len() - at) / 2 < bytes.len() {
-        return at;
-    }
-    put_digits(out, at, bytes);
-    at + bytes.len() * 2
+    put_digits(out, place, bytes);
+    place + bytes.len() * 2
 }
 
 fn put_digits(out: &mut [u8], at: usize, bytes: &[u8])

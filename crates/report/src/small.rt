@@ -1,10 +1,10 @@
 // Letters in lower case.
 ghost use mathlib.Core.Path.{_≡_};
-ghost use Rattle.report.specs.Small.{smallOf, InSmall};
+ghost use Rattle.report.specs.Small.{smallOf, inSmall};
 
 // Every capital of the text becomes the small letter; every other byte stays.
 pub fn in_small(text: &mut [u8])
-    ensures { λ _. ⌜ InSmall (now (text .entry)) (now (text .exit)) ⌝ }
+    ensures { λ _. ⌜ now (text .exit) ≡ inSmall (now (text .entry)) ⌝ }
 {
     let mut i = 0;
     while i < text.len() {

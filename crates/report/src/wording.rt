@@ -2,14 +2,16 @@
 use crate::answers::Told;
 use crate::pieces::text;
 use crate::pieces::value;
+ghost use mathlib.Core.Path.{_≡_};
+ghost use mathlib.Core.List.{[], _∷_};
 ghost use Prim.Native.Nat.{_≤_};
 ghost use lib.ListN.{length};
-ghost use Rattle.report.specs.AnswerText.{answerName, Values, AnswerText};
-ghost use Rattle.report.specs.Put.{Puts};
+ghost use Rattle.report.specs.AnswerText.{answerName, valuesPieces, answerPieces};
+ghost use Rattle.report.specs.Put.{outcome, putOf};
 
 // The name of the answer with a number of docs/NUMBERS.md; a number that is none's is `unknown`.
 pub fn answer_name(out: &mut [u8], at: usize, number: u8) -> usize
-    ensures { λ r. ⌜ Puts (now (out .entry)) at (answerName number) r (now (out .exit)) ⌝ }
+    ensures { λ r. ⌜ outcome r (now (out .exit)) ≡ putOf (now (out .entry)) at (answerName number ∷ []) ⌝ }
 {
     match number {
         0 => text(out, at, b"Done"),
@@ -35,15 +37,14 @@ pub fn answer_name(out: &mut [u8], at: usize, number: u8) -> usize
 // The name and the values, with a space before each value.
 pub fn answer_text(out: &mut [u8], at: usize, told: Told) -> usize
     ensures { λ r. ⌜ r ≤ length (now (out .exit)) ⌝ }
-    ensures { λ r. ⌜ AnswerText told (now (out .entry)) at r (now (out .exit)) ⌝ }
+    ensures { λ r. ⌜ outcome r (now (out .exit)) ≡ putOf (now (out .entry)) at (answerPieces told) ⌝ }
 {
     let past = answer_name(out, at, told.number);
     values(out, past, told)
 }
 
 fn values(out: &mut [u8], at: usize, told: Told) -> usize
-    ensures { λ r. ⌜ r ≤ length (now (out .exit)) ⌝ }
-    ensures { λ r. ⌜ Values told (now (out .entry)) at r (now (out .exit)) ⌝ }
+    ensures { λ r. ⌜ outcome r (now (out .exit)) ≡ putOf (now (out .entry)) at (valuesPieces told) ⌝ }
 {
     let past = value(out, at, 0 < told.values, told.first);
     let past = value(out, past, 1 < told.values, told.second);

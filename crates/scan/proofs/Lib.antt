@@ -1,6 +1,9 @@
-pub mod Lengths
+pub mod Begun
+pub mod Kept
 pub mod Pausing
 pub mod Ranged
 pub mod Runs
+pub mod Saids
 pub mod ShortWay
+pub mod Singles
 pub mod Steps

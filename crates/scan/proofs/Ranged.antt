@@ -6,12 +6,12 @@ use mathlib.Core.Bool.{true}
 use lib.Dec.{leb, ltb, eqb}
 use borrow.Author.Tests.{leb-true, eqb-true}
 use Rattle.base.specs.If.{both}
-use Rattle.words.specs.Words.{roomIn}
-use Rattle.machine.specs.declared.Tokenizer.{Tokenizer}
+use Rattle.events.specs.Words.{roomIn}
+use Rattle.tokenizer.specs.declared.Tokenizer.{Tokenizer}
 use Rattle.base.specs.Page.{pageLimit}
-use Rattle.machine.specs.Ranges.{jobInRange, listed, placesInRange, numbersInRange, isReturn, regsInRange, inRange}
+use Rattle.tokenizer.specs.Ranges.{jobInRange, listed, placesInRange, numbersInRange, isReturn, regsInRange, inRange}
 use Rattle.scan.specs.declared.Scan.{Scan}
-use Rattle.scan.specs.Scan.{Fit}
+use Rattle.scan.specs.Inner.{Fit}
 use Rattle.scan.specs.Call.{scanInRange, runnable}
 
 -- the numbers that a step counts with
@@ -28,16 +28,15 @@ ranged t e =
     let j = both (jobInRange (t .job)) _ (a .1) in
     let l = both (listed (t .job .construct) (t .state)) _ (j .1) in
     let r = both (regsInRange (t .job .length) (t .regs)) _ (l .1) in
-    let j₂ = both (leb (t .job .construct) 2) _ (j .0) in
-    let j₃ = both (leb (t .job .kind) 1) _ (j₂ .1) in
-    let j₄ = both (leb (t .job .length) pageLimit) _ (j₃ .1) in
+    let l₂ = both (leb (t .job .length) pageLimit) _ (j .0) in
+    let s₂ = both (leb (t .job .start) (t .job .length)) _ (l₂ .1) in
     let r₂ = both (isReturn (t .regs .back)) _ (r .0) in
     let r₃ = both (numbersInRange (t .regs)) _ (r₂ .1) in
     let r₄ = both (leb (t .regs .saved) (t .job .length)) _ (r₃ .1) in
     record {
       at = leb-true (t .at) (t .job .length) (a .0);
-      short = leb-true (t .job .length) pageLimit (j₄ .0);
-      start = leb-true (t .job .start) (t .job .length) (j₄ .1);
+      short = leb-true (t .job .length) pageLimit (l₂ .0);
+      start = leb-true (t .job .start) (t .job .length) (s₂ .0);
       saved = leb-true (t .regs .saved) (t .job .length) (r₄ .0);
     }
 

@@ -1,22 +1,24 @@
 -- How a run unfolds, and the invariant of the loop that makes it.
-use Prim.Native.Nat.{ℕ, zero, suc, _-_, _≤_, _<_}
+use Prim.Native.Nat.{ℕ, zero, suc, _+_, _-_, _≤_, _<_}
 use native.Mathlib.Omega.{arith}
 use native.Mathlib.Numerals.{sub-one}
-use mathlib.Core.Path.{_≡_, refl, sym, _∙_}
-use mathlib.Core.Bool.{true, false}
-use mathlib.Core.List.{List}
+use mathlib.Core.Path.{_≡_, refl, sym, ap, _∙_}
+use mathlib.Core.Bool.{Bool, true, false}
+use mathlib.Core.List.{List, [], _++_}
 use lib.ListN.{length}
 use borrow.Author.Tests.{lt-ltb, le-ltb}
-use Rattle.base.specs.If.{if_then_else_}
+use Rattle.base.specs.If.{if_then_else_, case}
 use Rattle.base.specs.Page.{byteAt}
 use Rattle.base.specs.State.{rests}
 use Rattle.base.specs.Decide.{eat}
 use Rattle.base.specs.declared.Marks.the-variants.{Nothing}
 use Rattle.base.specs.declared.Move.{Move}
 use Rattle.scan.specs.declared.Scan.{Scan}
-use Rattle.scan.specs.Scan.{choice, movedScan, stepScan, stepWords, runScan, runWords, Fit}
-use Rattle.scan.specs.Glide.{glides}
-use Rattle.scan.proofs.ShortWay.{glided}
+use Rattle.tokenizer.specs.Decision.{decision}
+use Rattle.events.specs.Words.{written}
+use Rattle.events.proofs.Laws.{count-is, written-append, written-none, written-long}
+use Rattle.scan.specs.Scan.{choice, carriedOut, movedScan, stepScan, stepEvents, runScan, runEvents, runWords}
+use Rattle.scan.specs.Inner.{Fit, Glides}
 use Rattle.scan.proofs.Steps.{none, fit-step}
 
 -- ---- how a run unfolds
@@ -27,28 +29,51 @@ module _ (page : List ℕ) (s : Scan) where
   run-rest zero e = refl
   run-rest (suc k) e = rw e
 
-  pub words-rest : (words : List ℕ) (k : ℕ) → rests (s .tokenizer .state) ≡ true → runWords page k s words ≡ words
-  unfolding runWords if_then_else_
-  words-rest words zero e = refl
-  words-rest words (suc k) e = rw e
+  pub events-rest : (k : ℕ) → rests (s .tokenizer .state) ≡ true → runEvents page k s ≡ []
+  unfolding runEvents if_then_else_
+  events-rest zero e = refl
+  events-rest (suc k) e = rw e
 
   pub run-more : (k : ℕ) → 0 < k → rests (s .tokenizer .state) ≡ false → runScan page k s ≡ runScan page (k - 1) (stepScan page s)
   unfolding runScan if_then_else_
   run-more zero h e = absurd (omega arith)
   run-more (suc k) h e = rw (sub-one, e)
 
-  pub words-more : (words : List ℕ) (k : ℕ) → 0 < k → rests (s .tokenizer .state) ≡ false → runWords page k s words ≡ runWords page (k - 1) (stepScan page s) (stepWords page s words)
-  unfolding runWords if_then_else_
-  words-more words zero h e = absurd (omega arith)
-  words-more words (suc k) h e = rw (sub-one, e)
+  pub events-more : (k : ℕ) → 0 < k → rests (s .tokenizer .state) ≡ false → runEvents page k s ≡ stepEvents page s ++ runEvents page (k - 1) (stepScan page s)
+  unfolding runEvents if_then_else_
+  events-more zero h e = absurd (omega arith)
+  events-more (suc k) h e = rw (sub-one, e)
+
+  -- a step counts its events
+  pub step-count : stepScan page s .used ≡ s .used + length (stepEvents page s)
+  unfolding stepScan stepEvents
+  step-count = ap (λ (n : ℕ). s .used + n) (sym (count-is (carriedOut s (choice page s) .marks) (s .tokenizer .at)))
+
+  -- the words of a step, and of the run after it, are the words of the run
+  pub words-more : (words : List ℕ) (k : ℕ) → 0 < k → rests (s .tokenizer .state) ≡ false
+      → runWords page (k - 1) (stepScan page s) (written words (s .used) (stepEvents page s)) ≡ runWords page k s words
+  words-more words k h e =
+      ap (λ (n : ℕ). written (written words (s .used) (stepEvents page s)) n (runEvents page (k - 1) (stepScan page s))) step-count
+      ∙ written-append words (s .used) (stepEvents page s) (runEvents page (k - 1) (stepScan page s))
+      ∙ ap (written words (s .used)) (sym (events-more k h e))
+
+  pub words-rest : (words : List ℕ) (k : ℕ) → rests (s .tokenizer .state) ≡ true → runWords page k s words ≡ words
+  words-rest words k e = ap (written words (s .used)) (events-rest k e) ∙ written-none words (s .used)
+
+-- ---- what every step keeps, a run keeps
+
+pub run-keeps : (page : List ℕ) (P : Scan → Type 0) → ((s : Scan) → rests (s .tokenizer .state) ≡ false → P s → P (stepScan page s)) → (k : ℕ) (s : Scan) → P s → P (runScan page k s)
+unfolding runScan if_then_else_
+run-keeps page P f zero s p = p
+run-keeps page P f (suc k) s p = case _ (rests (s .tokenizer .state)) (λ e. rw e p) (λ e. rw e (run-keeps page P f k (stepScan page s) (f s e p)))
 
 -- ---- the short way is a step
 
-pub glide : (page words : List ℕ) (s : Scan) (b : ℕ) (m : Move) → b ≡ byteAt page (s .tokenizer .at) → glides (s .tokenizer .state) (s .tokenizer .regs .quote) b ≡ true
-    → m ≡ eat (s .tokenizer .state) Nothing → (movedScan s m 0 ≡ stepScan page s) × (words ≡ stepWords page s words)
+pub glide : (page words : List ℕ) (s : Scan) (b : ℕ) (r : Bool) (m : Move) → b ≡ byteAt page (s .tokenizer .at) → Glides (s .tokenizer .state) (s .tokenizer .regs .quote) b r → r ≡ true
+    → m ≡ eat (s .tokenizer .state) Nothing → (movedScan s m 0 ≡ stepScan page s) × (words ≡ written words (s .used) (stepEvents page s))
 unfolding choice
-glide page words s b m e g d =
-    let c : m ≡ choice page s = d ∙ sym (glided page (s .tokenizer) (byteAt page (s .tokenizer .at)) (rw e at g)) in
+glide page words s b r m e g y d =
+    let c : m ≡ choice page s = d ∙ sym (ap (decision page (s .tokenizer)) (sym e) ∙ g page (s .tokenizer) refl refl y) in
     none page words s m c 0 (rw d) refl
 
 -- ---- the loop
@@ -68,18 +93,18 @@ module _ {page words₀ : List ℕ} {allowance : ℕ} {s₀ : Scan} {words : Lis
 
   -- the allowance is spent
   pub going-out : left ≤ 0 → (s ≡ runScan page allowance s₀) × (words ≡ runWords page allowance s₀ words₀)
-  unfolding runScan runWords
+  unfolding runScan runEvents
   going-out h =
       let z : left ≡ 0 = omega arith in
-      (rw z at (g .state), rw z at (g .written))
+      (rw z at (g .state), sym (written-none words (s .used)) ∙ rw z at (g .written))
 
   -- one more step
-  pub going-more : {words′ : List ℕ} {s′ : Scan} → 0 < left → 32 ≤ s .tokenizer .state → s′ ≡ stepScan page s → words′ ≡ stepWords page s words → length words′ ≡ length words → Going page words₀ allowance s₀ words′ s′ (left - 1)
+  pub going-more : {words′ : List ℕ} {s′ : Scan} → 0 < left → 32 ≤ s .tokenizer .state → s′ ≡ stepScan page s → words′ ≡ written words (s .used) (stepEvents page s) → length words′ ≡ length words → Going page words₀ allowance s₀ words′ s′ (left - 1)
   going-more {words′} {s′} h k e d l =
       let r = le-ltb (s .tokenizer .state) 32 k in
       record {
         state = rw e (sym (run-more page s left h r) ∙ g .state);
-        written = rw (e, d) (sym (words-more page s words left h r) ∙ g .written);
+        written = rw (e, d) (words-more page s words left h r ∙ g .written);
         fit = rw (e, l) (fit-step page s (length page) (length words) (g .fit));
         same = l ∙ g .same;
       }

@@ -1,4 +1,4 @@
--- The short way is the general one: where a state glides over a byte, its decision is to eat the byte and stay.
+-- The short way is the general one: where a state passes a byte so, its decision is to eat the byte and stay.
 use Prim.Native.Nat.{ℕ, _≤_}
 use native.Mathlib.Omega.{arith}
 use mathlib.Core.Path.{_≡_, refl, sym, ap, _∙_}
@@ -17,12 +17,12 @@ use Rattle.char_class.specs.Class.{isWhitespace, isIdStart, isIdCont}
 use Rattle.mdx_jsx.specs.Jsx.{whitespaceOrEnd, tagGoesOn}
 use Rattle.mdx_jsx_attribute.specs.Attribute.{quotedEnds}
 use Rattle.mdx_esm.specs.Esm.{lineEnds}
-use Rattle.machine.specs.declared.Tokenizer.{Tokenizer}
-use Rattle.machine.specs.Machine.{notAscii, takesAscii, refusesNotAscii, esmDecision, attributeDecision, tagDecision, expressionDecision, decision}
-use Rattle.scan.specs.Glide.{plainData, inNames, glides}
+use Rattle.tokenizer.specs.declared.Tokenizer.{Tokenizer}
+use Rattle.tokenizer.specs.Decision.{notAscii, takesAscii, refusesNotAscii, esmDecision, attributeDecision, tagDecision, expressionDecision, stateDecision, decision}
+use Rattle.scan.specs.Inner.{plainData, insideAName}
 
 -- the byte is eaten, and the state stays
-abbrev stay : ℕ → Move
+abbrev pub stay : ℕ → Move
 stay name = eat name Nothing
 
 -- ---- what continues a name
@@ -61,26 +61,26 @@ module _ (b : ℕ) (e : isIdCont b ≡ true) where
 
   module _ (page : List ℕ) (t : Tokenizer) where
     primary : t .state ≡ 58 → decision page t b ≡ eat 58 Nothing
-    unfolding decision expressionDecision tagDecision attributeDecision find if_then_else_ isIdCont isIdStart within among
+    unfolding decision stateDecision tagDecision attributeDecision find if_then_else_ isIdCont isIdStart within among
     primary h = rw h (simp (ascii 58, no-white, no-end, other 46 refl, other 58 refl, e))
 
     member : t .state ≡ 59 → decision page t b ≡ eat 59 Nothing
-    unfolding decision expressionDecision tagDecision attributeDecision find if_then_else_ isIdCont isIdStart within among
+    unfolding decision stateDecision tagDecision attributeDecision find if_then_else_ isIdCont isIdStart within among
     member h = rw h (simp (ascii 59, no-white, no-end, other 46 refl, e))
 
     local : t .state ≡ 60 → decision page t b ≡ eat 60 Nothing
-    unfolding decision expressionDecision tagDecision attributeDecision find if_then_else_ isIdCont isIdStart within among
+    unfolding decision stateDecision tagDecision attributeDecision find if_then_else_ isIdCont isIdStart within among
     local h = rw h (simp (ascii 60, no-white, no-end, e))
 
     attribute-primary : t .state ≡ 61 → decision page t b ≡ eat 61 Nothing
-    unfolding decision expressionDecision tagDecision attributeDecision find if_then_else_ isIdCont isIdStart within among
+    unfolding decision stateDecision tagDecision attributeDecision find if_then_else_ isIdCont isIdStart within among
     attribute-primary h = rw h (simp (ascii 61, no-white, no-end, other 58 refl, other 61 refl, e))
 
     attribute-local : t .state ≡ 62 → decision page t b ≡ eat 62 Nothing
-    unfolding decision expressionDecision tagDecision attributeDecision find if_then_else_ isIdCont isIdStart within among
+    unfolding decision stateDecision tagDecision attributeDecision find if_then_else_ isIdCont isIdStart within among
     attribute-local h = rw h (simp (ascii 62, no-white, no-end, other 61 refl, e))
 
-    names : inNames (t .state) ≡ true → decision page t b ≡ eat (t .state) Nothing
+    pub names : insideAName (t .state) ≡ true → decision page t b ≡ eat (t .state) Nothing
     names h =
         let n = t .state in
         let r = within-is 58 62 n h in
@@ -95,8 +95,8 @@ module _ (b : ℕ) (e : isIdCont b ≡ true) where
 -- ---- data, quoted values, ESM
 
 module _ (page : List ℕ) (t : Tokenizer) (b : ℕ) where
-  data-plain : t .state ≡ 34 → plainData b ≡ true → decision page t b ≡ eat 34 Nothing
-  unfolding decision expressionDecision find if_then_else_ within among
+  pub data-plain : t .state ≡ 34 → plainData b ≡ true → decision page t b ≡ eat 34 Nothing
+  unfolding decision stateDecision expressionDecision find if_then_else_ within among
   data-plain h e =
       let n = not-yes _ e in
       let f = or-right (eqb b lineFeed) _ n in
@@ -104,22 +104,10 @@ module _ (page : List ℕ) (t : Tokenizer) (b : ℕ) where
       let k = or-right (eqb b rightBrace) _ g in
       rw h (simp (and-no′ (notAscii b) (takesAscii 34) refl, or-left (eqb b endOfPage) _ k, or-left (eqb b lineFeed) _ n, or-left (eqb b leftBrace) _ f, or-left (eqb b rightBrace) _ g))
 
-  quoted : t .state ≡ 39 → not (quotedEnds b (t .regs .quote)) ≡ true → decision page t b ≡ eat 39 Nothing
-  unfolding decision expressionDecision tagDecision attributeDecision find if_then_else_ within
+  pub quoted : t .state ≡ 39 → not (quotedEnds b (t .regs .quote)) ≡ true → decision page t b ≡ eat 39 Nothing
+  unfolding decision stateDecision tagDecision attributeDecision find if_then_else_ within
   quoted h e = rw h (simp (and-no′ (notAscii b) (takesAscii 39) refl, not-yes (quotedEnds b (t .regs .quote)) e))
 
-  lines : t .state ≡ 70 → not (lineEnds b) ≡ true → decision page t b ≡ eat 70 Nothing
-  unfolding decision expressionDecision tagDecision attributeDecision esmDecision find if_then_else_ within
+  pub lines : t .state ≡ 70 → not (lineEnds b) ≡ true → decision page t b ≡ eat 70 Nothing
+  unfolding decision stateDecision esmDecision find if_then_else_ within
   lines h e = rw h (simp (and-no′ (notAscii b) (takesAscii 70) refl, not-yes (lineEnds b) e))
-
-  -- where the state glides over the byte, it eats it and stays
-  pub glided : glides (t .state) (t .regs .quote) b ≡ true → decision page t b ≡ eat (t .state) Nothing
-  unfolding glides if_then_else_
-  glided e =
-      let n = t .state in
-      let P = decision page t b ≡ eat n Nothing in
-      case P (eqb n 34) (λ q. let k = eqb-true n 34 q in data-plain k (simp q at e) ∙ ap stay (sym k))
-      (λ d₁. case P (eqb n 70) (λ q. let k = eqb-true n 70 q in lines k (simp (d₁, q) at e) ∙ ap stay (sym k))
-      (λ d₂. case P (eqb n 39) (λ q. let k = eqb-true n 39 q in quoted k (simp (d₁, d₂, q) at e) ∙ ap stay (sym k))
-      (λ d₃. case P (inNames n) (λ q. names b (simp (d₁, d₂, d₃, q) at e) page t q)
-      (λ d₄. let z : _≡_ {A = Bool} false true = simp (d₁, d₂, d₃, d₄) at e in let y : _≡_ {A = ℕ} 0 1 = cc in absurd (omega (arith, y))))))

@@ -15,11 +15,14 @@ use Rattle.base.specs.declared.Marks.the-variants.{Nothing, One, Two, Three, Fo
 use Rattle.base.specs.declared.Effect.{Effect}
 use Rattle.base.specs.declared.Effect.the-variants.{Keep, Deeper, Shallower, Open, PrefixBegins, PrefixGoesOn, PrefixEnds, Quote, Return, Save, Restore, Last, Fault, Refuse}
 use Rattle.base.specs.declared.Move.{Move}
-use Rattle.words.specs.Words.{roomIn, writeAll}
-use Rattle.machine.specs.declared.Regs.{Regs}
-use Rattle.machine.specs.Moved.{nextPlace, placeAfter, changed, moved}
+use Rattle.events.specs.Event.{eventsAt}
+use Rattle.events.specs.Words.{roomIn, written}
+use Rattle.events.proofs.Laws.{written-none}
+use Rattle.tokenizer.specs.declared.Regs.{Regs}
+use Rattle.tokenizer.specs.Moved.{nextPlace, placeAfter, changed, moved}
 use Rattle.scan.specs.declared.Scan.{Scan}
-use Rattle.scan.specs.Scan.{choice, lacks, done, movedScan, stepScan, stepWords, Fit, Counts}
+use Rattle.scan.specs.Scan.{choice, lacks, carriedOut, movedScan, stepScan, stepEvents}
+use Rattle.scan.specs.Inner.{Fit, Counts}
 
 -- ---- events
 
@@ -41,25 +44,25 @@ few-marks (Four a b c d) = omega arith
 
 module _ (page words : List ℕ) (s : Scan) (m : Move) (e : m ≡ choice page s) (n : ℕ) (counts : n ≡ countOf (m .marks)) where
   abbrev Stepped : Scan → List ℕ → Type 0
-  Stepped s′ words′ = (s′ ≡ stepScan page s) × (words′ ≡ stepWords page s words)
+  Stepped s′ words′ = (s′ ≡ stepScan page s) × (words′ ≡ written words (s .used) (stepEvents page s))
 
-  pub fits : lacks s m ≡ false → Stepped (movedScan s m n) (writeAll words (s .used) (s .tokenizer .at) (listOf (m .marks)))
-  unfolding stepScan stepWords
+  pub fits : lacks s m ≡ false → Stepped (movedScan s m n) (written words (s .used) (eventsAt (s .tokenizer .at) (listOf (m .marks))))
+  unfolding stepScan stepEvents
   fits f =
-      let d : done s m ≡ m = sym (if-no _ _ m (retry full Nothing) m f refl) in
+      let d : carriedOut s m ≡ m = sym (if-no _ _ m (retry full Nothing) m f refl) in
       (rw (← e, d, counts), rw (← e, d))
 
   pub none : n ≡ 0 → Stepped (movedScan s m n) words
   none z =
       let k : countOf (m .marks) ≡ 0 = sym counts ∙ z in
       let f = fits (le-ltb _ (countOf (m .marks)) (omega (arith, k))) in
-      (f .0, sym (rw (no-marks (m .marks) k) refl) ∙ f .1)
+      (f .0, sym (rw (no-marks (m .marks) k) (written-none words (s .used))) ∙ f .1)
 
   pub lacking : lacks s m ≡ true → Stepped (movedScan s (retry full Nothing) 0) words
-  unfolding stepScan stepWords
+  unfolding stepScan stepEvents
   lacking f =
-      let d : done s m ≡ retry full Nothing = sym (if-yes _ _ (retry full Nothing) (retry full Nothing) m f refl) in
-      (rw (← e, d), rw (← e, d))
+      let d : carriedOut s m ≡ retry full Nothing = sym (if-yes _ _ (retry full Nothing) (retry full Nothing) m f refl) in
+      (rw (← e, d), sym (rw (← e, d) (written-none words (s .used))))
 
 -- ---- what a step asks
 
@@ -125,7 +128,7 @@ fit-moved s n w m k f h =
 pub fit-step : (page : List ℕ) (s : Scan) (n w : ℕ) → Fit s n w → Fit (stepScan page s) n w
 unfolding stepScan
 fit-step page s n w f =
-    fit-moved s n w (done s (choice page s)) (countOf (done s (choice page s) .marks)) f
+    fit-moved s n w (carriedOut s (choice page s)) (countOf (carriedOut s (choice page s) .marks)) f
     (if-is Move (λ (m : Move). s .used + countOf (m .marks) ≤ roomIn w) (lacks s (choice page s)) (retry full Nothing) (choice page s)
     (λ e. omega (arith, f .used))
     (λ e. omega (arith, f .used, f .words, ltb-false (roomIn (s .tokenizer .job .words) - s .used) (countOf (choice page s .marks)) e)))

@@ -1,10 +1,16 @@
--- The answer of a scan: document 01's answer table, each row's number and the values that it carries.
+-- The answer of a scan: the scope's answer table, each row's number and the values that it carries.
+--
+-- docs/SCOPE.md, 'Language form for each place': "For an answer that is an enum, a definition gives this paper's number and values for each of
+-- its cases, and the promises use that definition." It is `saidBy`; what a call answers is said in numbers and values, and the promises
+-- compare the two.
 use Prim.Native.Nat.{ℕ}
 use mathlib.Core.List.{List, [], _∷_}
 use lib.Dec.{leb}
 use Rattle.base.specs.If.{if_then_else_}
 use Rattle.base.specs.Table.{find}
 use Rattle.base.specs.State as state
+use Rattle.base.specs.State.{firstRunning}
+use Rattle.base.specs.Number as number
 use Rattle.scan.specs.declared.Answer.{Answer}
 use Rattle.scan.specs.declared.Answer.the-variants.{
   Done,
@@ -25,78 +31,74 @@ use Rattle.scan.specs.declared.Answer.the-variants.{
 }
 use Rattle.scan.specs.declared.Scan.{Scan}
 
--- the number of an answer; those that the table does not number have the state's, or 32 and 33
-abbrev pub numberOf : Answer → ℕ
-numberOf (Done end events steps) = 0
-numberOf (Nok events steps) = 1
-numberOf TooLong = 2
-numberOf BadStart = 3
-numberOf (BadText offset) = 4
-numberOf (NotAscii place events steps) = 5
-numberOf (Eof place site events steps) = 6
-numberOf (Unexpected place site note events steps) = 7
-numberOf (VerdictError place number events steps) = 8
-numberOf (VerdictEof place number events steps) = 9
-numberOf (Full place events steps) = 10
-numberOf BadCall = 12
-numberOf (Asking place events steps) = 31
-numberOf (Paused place events steps) = 32
-numberOf Kept = 33
+-- an answer's number, and the values that it carries, in the table's order, then event count and steps where it carries them
+pub record Said : Type 0 where
+  pub number : ℕ
+  pub values : List ℕ
 
--- the values that it carries, in the table's order, then event count and steps where it carries them
-abbrev pub valuesOf : Answer → List ℕ
-valuesOf (Done end events steps) = end ∷ events ∷ steps ∷ []
-valuesOf (Nok events steps) = events ∷ steps ∷ []
-valuesOf TooLong = []
-valuesOf BadStart = []
-valuesOf (BadText offset) = offset ∷ []
-valuesOf (NotAscii place events steps) = place ∷ events ∷ steps ∷ []
-valuesOf (Eof place site events steps) = place ∷ site ∷ events ∷ steps ∷ []
-valuesOf (Unexpected place site note events steps) = place ∷ site ∷ note ∷ events ∷ steps ∷ []
-valuesOf (VerdictError place number events steps) = place ∷ number ∷ events ∷ steps ∷ []
-valuesOf (VerdictEof place number events steps) = place ∷ number ∷ events ∷ steps ∷ []
-valuesOf (Full place events steps) = place ∷ events ∷ steps ∷ []
-valuesOf BadCall = []
-valuesOf (Asking place events steps) = place ∷ events ∷ steps ∷ []
-valuesOf (Paused place events steps) = place ∷ events ∷ steps ∷ []
-valuesOf Kept = []
+abbrev pub said : ℕ → List ℕ → Said
+said number values = record { number = number; values = values }
 
--- where a scan rests, by the number of its state: at the construct's end, at no construct, at a question
-abbrev pub endAnswers : Scan → List (ℕ × Answer)
+-- what each case of the enum says
+abbrev pub saidBy : Answer → Said
+saidBy (Done end events steps) = said 0 (end ∷ events ∷ steps ∷ [])
+saidBy (Nok events steps) = said 1 (events ∷ steps ∷ [])
+saidBy TooLong = said 2 []
+saidBy BadStart = said 3 []
+saidBy (BadText offset) = said 4 (offset ∷ [])
+saidBy (NotAscii place events steps) = said 5 (place ∷ events ∷ steps ∷ [])
+saidBy (Eof place site events steps) = said 6 (place ∷ site ∷ events ∷ steps ∷ [])
+saidBy (Unexpected place site note events steps) = said 7 (place ∷ site ∷ note ∷ events ∷ steps ∷ [])
+saidBy (VerdictError place number events steps) = said 8 (place ∷ number ∷ events ∷ steps ∷ [])
+saidBy (VerdictEof place number events steps) = said 9 (place ∷ number ∷ events ∷ steps ∷ [])
+saidBy (Full place events steps) = said 10 (place ∷ events ∷ steps ∷ [])
+saidBy BadCall = said 12 []
+saidBy (Asking place events steps) = said 31 (place ∷ events ∷ steps ∷ [])
+saidBy (Paused place events steps) = said 32 (place ∷ events ∷ steps ∷ [])
+saidBy Kept = said 33 []
+
+-- ---- what a call answers
+
+-- 12
+abbrev pub refused : Said
+refused = said number.badCall []
+
+-- where a scan rests, by the number of its state, which is the answer's: at the construct's end, at no construct, at a question
+abbrev pub endAnswers : Scan → List (ℕ × Said)
 endAnswers s =
-    (state.done, Done (s .tokenizer .at) (s .used) (s .steps))
-    ∷ (state.nok, Nok (s .used) (s .steps))
-    ∷ (state.asking, Asking (s .tokenizer .at) (s .used) (s .steps))
+    (state.done, said state.done (s .tokenizer .at ∷ s .used ∷ s .steps ∷ []))
+    ∷ (state.nok, said state.nok (s .used ∷ s .steps ∷ []))
+    ∷ (state.asking, said state.asking (s .tokenizer .at ∷ s .used ∷ s .steps ∷ []))
     ∷ []
 
 -- at a byte of the page, its end, or the end of the event buffer
-abbrev pub pageAnswers : Scan → List (ℕ × Answer)
+abbrev pub pageAnswers : Scan → List (ℕ × Said)
 pageAnswers s =
     let at = s .tokenizer .at in
     let regs = s .tokenizer .regs in
-    (state.notAscii, NotAscii at (s .used) (s .steps))
-    ∷ (state.eof, Eof at (regs .site) (s .used) (s .steps))
-    ∷ (state.unexpected, Unexpected at (regs .site) (regs .note) (s .used) (s .steps))
-    ∷ (state.full, Full at (s .used) (s .steps))
+    (state.notAscii, said state.notAscii (at ∷ s .used ∷ s .steps ∷ []))
+    ∷ (state.eof, said state.eof (at ∷ regs .site ∷ s .used ∷ s .steps ∷ []))
+    ∷ (state.unexpected, said state.unexpected (at ∷ regs .site ∷ regs .note ∷ s .used ∷ s .steps ∷ []))
+    ∷ (state.full, said state.full (at ∷ s .used ∷ s .steps ∷ []))
     ∷ []
 
 -- at a verdict
-abbrev pub verdictAnswers : Scan → List (ℕ × Answer)
+abbrev pub verdictAnswers : Scan → List (ℕ × Said)
 verdictAnswers s =
     let regs = s .tokenizer .regs in
-    (state.verdictError, VerdictError (regs .fault) (regs .last) (s .used) (s .steps))
-    ∷ (state.verdictEof, VerdictEof (s .tokenizer .at) (regs .last) (s .used) (s .steps))
+    (state.verdictError, said state.verdictError (regs .fault ∷ regs .last ∷ s .used ∷ s .steps ∷ []))
+    ∷ (state.verdictEof, said state.verdictEof (s .tokenizer .at ∷ regs .last ∷ s .used ∷ s .steps ∷ []))
     ∷ []
 
 -- no scan rests at another number
-unfoldable pub verdictRefusal : Scan → Answer
-verdictRefusal s = find (s .tokenizer .state) (verdictAnswers s) BadCall
+unfoldable pub verdictRefusal : Scan → Said
+verdictRefusal s = find (s .tokenizer .state) (verdictAnswers s) refused
 
-unfoldable pub refusal : Scan → Answer
+unfoldable pub refusal : Scan → Said
 refusal s = find (s .tokenizer .state) (pageAnswers s) (verdictRefusal s)
 
 -- the answer of a scan as it stands: one that neither asks nor has ended is paused
-unfoldable pub answerOf : Scan → Answer
+unfoldable pub answerOf : Scan → Said
 answerOf s =
-    if leb 32 (s .tokenizer .state) then Paused (s .tokenizer .at) (s .used) (s .steps)
+    if leb firstRunning (s .tokenizer .state) then said number.paused (s .tokenizer .at ∷ s .used ∷ s .steps ∷ [])
     else find (s .tokenizer .state) (endAnswers s) (refusal s)

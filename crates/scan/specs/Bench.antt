@@ -1,4 +1,4 @@
--- Document 01, 'Bench cases': all of them, as one computed table under one claim. Each row states what the document states of it.
+-- docs/SCOPE.md, 'Bench cases': all of them, as one computed table under one claim. Each row states what the document states of it.
 use Prim.Native.Nat.{ℕ}
 use mathlib.Core.Path.{_≡_, refl}
 use mathlib.Core.Bool.{Bool, true, _&&_}
@@ -13,12 +13,11 @@ use Rattle.base.specs.declared.Verdict.{Verdict}
 use Rattle.base.specs.declared.Verdict.the-variants.{Fine, Unfinished}
 use Rattle.char_class.specs.Class.{isWhitespace, isSpaceOrTab, isIdStart, isIdCont}
 use Rattle.mdx_esm.specs.Word.{spells, isWord}
-use Rattle.machine.specs.Machine.{esmDecision, attributeDecision, tagDecision, expressionDecision, decision}
-use Rattle.machine.specs.Moved.{moved}
-use Rattle.machine.specs.Ranges.{expression, tag, esm}
-use Rattle.scan.specs.declared.Answer.{Answer}
+use Rattle.tokenizer.specs.Decision.{esmDecision, attributeDecision, tagDecision, expressionDecision, stateDecision, decision}
+use Rattle.tokenizer.specs.Moved.{moved}
+use Rattle.tokenizer.specs.Ranges.{expression, tag, esm}
 use Rattle.scan.specs.Scan.{choice, stepScan, runScan}
-use Rattle.scan.specs.Answer.{numberOf, valuesOf, verdictRefusal, refusal, answerOf}
+use Rattle.scan.specs.Answer.{Said, verdictRefusal, refusal, answerOf}
 use Rattle.scan.specs.Call.{jobOf, freshScan, givenScan}
 use Rattle.scan.specs.Alone.{runAlone}
 
@@ -39,7 +38,7 @@ pub record Case : Type 0 where
   pub values : List (ℕ × ℕ)
 
 -- flow kind, room for 50 events, more steps than any row takes
-pub answerTo : Case → Answer
+pub answerTo : Case → Said
 answerTo c = answerOf (runAlone (c .page) 100 (c .told) (freshScan (jobOf (c .construct) 0 (c .flags) (length (c .page)) 0 100)))
 
 pub allOf : List (ℕ × ℕ) → List ℕ → Bool
@@ -47,7 +46,7 @@ allOf [] values = true
 allOf (v ∷ vs) values = eqb (getD values (v .0) 0) (v .1) && allOf vs values
 
 pub right : Case → Bool
-right c = eqb (numberOf (answerTo c)) (c .number) && allOf (c .values) (valuesOf (answerTo c))
+right c = eqb (answerTo c .number) (c .number) && allOf (c .values) (answerTo c .values)
 
 pub allRight : List Case → Bool
 allRight [] = true
@@ -123,6 +122,7 @@ unfolding
     choice
     moved
     decision
+    stateDecision
     expressionDecision
     tagDecision
     attributeDecision

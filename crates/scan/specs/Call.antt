@@ -1,32 +1,31 @@
--- The calls of a single scan: a new scan, a run with an allowance, a verdict; and what each refuses.
+-- The calls of a single scan: a new scan, a run with an allowance, a verdict, the two in one call; and what each refuses.
 --
--- Document 01, 'The answer table': "12, 2, 3, 4, in that order, come before any step and write nothing." 'The worker' lists what 12 is
+-- docs/SCOPE.md, 'The answer table': "12, 2, 3, 4, in that order, come before any step and write nothing." 'The worker' lists what 12 is
 -- given for: a number not listed in docs/, a state outside the ranges, a verdict nobody awaits or whose number is out of range, an
 -- allowance of 0, a single scan resumed when finished, without its verdict, or with a page or event buffer of another length.
 use Prim.Native.Nat.{ℕ, _%_}
-use mathlib.Core.Bool.{Bool, _&&_}
-use mathlib.Core.List.{List}
+use mathlib.Core.Bool.{Bool, false, _&&_}
+use mathlib.Core.List.{List, [], _∷_}
 use lib.ListN.{length}
 use lib.Dec.{leb, ltb, eqb}
 use Rattle.base.specs.If.{if_then_else_}
-use Rattle.base.specs.State.{asking, mdxExpressionStart, mdxExpressionVerdict, mdxJsxStart, mdxEsmStart, mdxEsmVerdict}
+use Rattle.base.specs.State.{nok, asking, firstRunning, mdxExpressionStart, mdxExpressionVerdict, mdxJsxStart, mdxEsmStart, mdxEsmVerdict}
+use Rattle.base.specs.Number as number
 use Rattle.base.specs.declared.Verdict.{Verdict}
 use Rattle.base.specs.declared.Verdict.the-variants.{Fine}
-use Rattle.words.specs.Words.{roomIn}
-use Rattle.page.specs.Page.{pageCheck}
+use Rattle.events.specs.Words.{roomIn}
+use Rattle.page.specs.Page.{pageOf, pageCheck}
 use Rattle.page.specs.declared.Checked.{Checked}
 use Rattle.page.specs.declared.Checked.the-variants as checked
-use Rattle.machine.specs.declared.Job.{Job}
-use Rattle.machine.specs.Moved.{regsOf}
-use Rattle.machine.specs.Ranges.{tag, esm, inRange, verdictInRange}
+use Rattle.tokenizer.specs.declared.Job.{Job}
+use Rattle.tokenizer.specs.Registers.{noRegs}
+use Rattle.tokenizer.specs.Ranges.{tag, esm, constructListed, kindListed, inRange, verdictInRange}
 use Rattle.scan.specs.declared.Scan.{Scan}
-use Rattle.scan.specs.declared.Answer.{Answer}
-use Rattle.scan.specs.declared.Answer.the-variants.{TooLong, BadStart, BadText, BadCall, Kept}
 use Rattle.scan.specs.declared.Ran.{Ran}
 use Rattle.scan.specs.declared.Began.{Began}
-use Rattle.scan.specs.declared.Began.the-variants.{Started, Refused}
+use Rattle.scan.specs.declared.Began.the-variants as began
 use Rattle.scan.specs.Scan.{stepBound, runScan, runWords}
-use Rattle.scan.specs.Answer.{answerOf}
+use Rattle.scan.specs.Answer.{Said, said, saidBy, refused, answerOf}
 
 -- a scan that a call can have given, by the ranges of docs/NUMBERS.md
 unfoldable pub scanInRange : Scan → Bool
@@ -35,16 +34,22 @@ scanInRange s =
     && (leb (s .used) (roomIn (s .tokenizer .job .words))
     && leb (s .steps) (stepBound (s .tokenizer .job)))
 
--- what a call leaves: the scan with the answer, and the lent words
-pub record Outcome : Type 0 where
-  pub ran : Ran
+-- the answer of a scan that is handed over
+unfoldable pub askedAnswer : Scan → Said
+askedAnswer s = if scanInRange s then answerOf s else refused
+
+-- what a call leaves: the scan, what it answered, and the lent words
+pub record Left : Type 0 where
+  pub scan : Scan
+  pub answer : Said
   pub words : List ℕ
 
-abbrev pub outcome : Ran → List ℕ → Outcome
-outcome r words = record { ran = r; words = words }
+abbrev pub left : Scan → Said → List ℕ → Left
+left s answer words = record { scan = s; answer = answer; words = words }
 
-abbrev pub ran : Scan → Answer → Ran
-ran s a = record { scan = s; answer = a }
+-- as the code hands it back
+abbrev pub leftBy : Ran → List ℕ → Left
+leftBy r words = left (r .scan) (saidBy (r .answer)) words
 
 -- ---- a run
 
@@ -52,16 +57,15 @@ ran s a = record { scan = s; answer = a }
 unfoldable pub runnable : Scan → ℕ → ℕ → ℕ → Bool
 runnable s n w allowance =
     ltb 0 allowance
-    && (leb 32 (s .tokenizer .state)
+    && (leb firstRunning (s .tokenizer .state)
     && (eqb n (s .tokenizer .job .length)
     && (eqb w (s .tokenizer .job .words)
     && scanInRange s)))
 
-unfoldable pub runOf : List ℕ → ℕ → Scan → List ℕ → Outcome
+unfoldable pub runOf : List ℕ → ℕ → Scan → List ℕ → Left
 runOf page allowance s words =
-    if runnable s (length page) (length words) allowance then
-    outcome (ran (runScan page allowance s) (answerOf (runScan page allowance s))) (runWords page allowance s words)
-    else outcome (ran s BadCall) words
+    if runnable s (length page) (length words) allowance then left (runScan page allowance s) (answerOf (runScan page allowance s)) (runWords page allowance s words)
+    else left s refused words
 
 -- ---- a verdict
 
@@ -82,8 +86,9 @@ givenScan s v =
       steps = s .steps;
     }
 
-unfoldable pub giveOf : Scan → Verdict → Ran
-giveOf s v = if givable s v then ran (givenScan s v) Kept else ran s BadCall
+-- it is lent no words
+unfoldable pub giveOf : Scan → Verdict → Left
+giveOf s v = if givable s v then left (givenScan s v) (said number.kept []) [] else left s refused []
 
 -- ---- a new scan
 
@@ -100,28 +105,70 @@ jobOf construct kind flags n start words =
       words = words;
     }
 
+-- the largest number of flags
+abbrev pub allFlags : ℕ
+allFlags = 3
+
 abbrev pub firstState : ℕ → ℕ
 firstState construct = if eqb construct esm then mdxEsmStart else if eqb construct tag then mdxJsxStart else mdxExpressionStart
 
 unfoldable pub freshScan : Job → Scan
 freshScan j =
     record {
-      tokenizer = record { job = j; state = firstState (j .construct); at = j .start; regs = regsOf 0 0 0 0 0 0 0 0 0 0 0; heard = Fine };
+      tokenizer = record { job = j; state = firstState (j .construct); at = j .start; regs = noRegs; heard = Fine };
+      used = 0;
+      steps = 0;
+    }
+
+-- where no scan is: one that has ended on an empty page, with nothing there
+abbrev pub noScan : Scan
+noScan =
+    record {
+      tokenizer = record {
+        job = record { construct = 0; kind = 0; asks = false; interrupt = false; length = 0; start = 0; words = 0 };
+        state = nok;
+        at = 0;
+        regs = noRegs;
+        heard = Fine;
+      };
       used = 0;
       steps = 0;
     }
 
 abbrev pub numbersListed : ℕ → ℕ → ℕ → Bool
-numbersListed construct kind flags = leb construct 2 && (leb kind 1 && leb flags 3)
+numbersListed construct kind flags = leb flags allFlags && (constructListed construct && kindListed kind)
 
-abbrev pub beganBy : Checked → Scan → Began
-beganBy checked.Good s = Started s
-beganBy checked.TooLong s = Refused TooLong
-beganBy checked.BadStart s = Refused BadStart
-beganBy (checked.BadText offset) s = Refused (BadText offset)
+-- a new scan, or why there is none
+pub data Begun : Type 0 where
+  started : Scan → Begun
+  notStarted : Said → Begun
+
+abbrev pub begunBy : Began → Begun
+begunBy (began.Started s) = started s
+begunBy (began.Refused a) = notStarted (saidBy a)
+
+-- rows 2, 3 and 4
+abbrev pub begunIf : Checked → Scan → Begun
+begunIf checked.Good s = started s
+begunIf checked.TooLong s = notStarted (said number.tooLong [])
+begunIf checked.BadStart s = notStarted (said number.badStart [])
+begunIf (checked.BadText offset) s = notStarted (said number.badText (offset ∷ []))
 
 -- a page of n bytes at a place of the lent bytes, with an event buffer of so many words
-unfoldable pub beginOf : List ℕ → ℕ → ℕ → ℕ → ℕ → ℕ → ℕ → ℕ → Began
+unfoldable pub beginOf : List ℕ → ℕ → ℕ → ℕ → ℕ → ℕ → ℕ → ℕ → Begun
 beginOf bytes at n start construct kind flags words =
-    if numbersListed construct kind flags then beganBy (pageCheck bytes at n start) (freshScan (jobOf construct kind flags n start words))
-    else Refused BadCall
+    if numbersListed construct kind flags then begunIf (pageCheck bytes at n start) (freshScan (jobOf construct kind flags n start words))
+    else notStarted refused
+
+-- ---- a single scan in one call
+
+-- the scan is run, or there is none, and nothing is written
+abbrev pub ranFrom : Begun → List ℕ → ℕ → List ℕ → Left
+ranFrom (started s) page allowance words = runOf page allowance s words
+ranFrom (notStarted answer) page allowance words = left noScan answer words
+
+-- "A single scan or resume names a step allowance": 12 for one of 0 comes before 2, 3 and 4
+unfoldable pub singleOf : List ℕ → ℕ → ℕ → ℕ → ℕ → ℕ → ℕ → ℕ → List ℕ → Left
+singleOf bytes at n start construct kind flags allowance words =
+    if ltb 0 allowance then ranFrom (beginOf bytes at n start construct kind flags (length words)) (pageOf bytes at n) allowance words
+    else left noScan refused words

@@ -2,5 +2,6 @@ pub mod Alone
 pub mod Answer
 pub mod Bench
 pub mod Call
-pub mod Glide
+pub mod Inner
 pub mod Scan
+pub mod Statement

@@ -4,4 +4,5 @@ pub mod Digits
 pub mod Pairs
 pub mod Decoding
 pub mod Taking
+pub mod Moving
 pub mod Filling

@@ -2,9 +2,9 @@
 use Prim.Native.Nat.{ℕ, _+_, _-_, _≤_}
 use mathlib.Core.Path.{_≡_}
 use mathlib.Core.Bool.{Bool, true, false}
-use mathlib.Core.List.{List}
+use mathlib.Core.List.{List, _++_}
 use lib.Dec.{eqb, ltb}
-use lib.ListN.{length}
+use lib.ListN.{length, take, drop}
 use Rattle.base.specs.Byte.{lineFeed}
 use Rattle.base.specs.If.{if_then_else_}
 use Rattle.text.specs.declared.input.Input.{Input}
@@ -60,11 +60,24 @@ atIn room i = leastOf (i .at) (endIn room i)
 abbrev pub takenOf : List ℕ → Input → Taken
 takenOf buffer i = takenAt buffer (atIn (length buffer) i) (endIn (length buffer) i) (i .skips) (i .ended)
 
--- a buffer with so much room was filled: the unused bytes begin at its front and are no fewer, and the input has ended if none were added.
--- Which bytes they are is not said
-pub record Filled (room : ℕ) (i r : Input) : Type 0 where
+-- the buffer with `count` bytes from a place on at its front; from `count` on it is as it was
+unfoldable pub movedDown : List ℕ → ℕ → ℕ → List ℕ
+movedDown buffer from count = take count (drop from buffer) ++ drop count buffer
+
+-- the bytes that have been read and not been used
+abbrev pub unusedIn : List ℕ → Input → List ℕ
+unusedIn buffer i = part buffer (atIn (length buffer) i) (endIn (length buffer) i)
+
+abbrev pub unusedCount : ℕ → Input → ℕ
+unusedCount room i = endIn room i - atIn room i
+
+-- a buffer was filled: the unused bytes stand at its front, all of them and as they were; what is read comes behind them, and the input
+-- has ended if that is nothing. Which bytes are read is not said
+pub record Filled (buffer : List ℕ) (i r : Input) (filled : List ℕ) : Type 0 where
   pub front : r .at ≡ 0
-  pub kept : endIn room i - atIn room i ≤ r .end
-  pub within : r .end ≤ room
+  pub unused : take (unusedCount (length buffer) i) filled ≡ unusedIn buffer i
+  pub long : length filled ≡ length buffer
+  pub kept : unusedCount (length buffer) i ≤ r .end
+  pub within : r .end ≤ length buffer
   pub skipping : r .skips ≡ i .skips
-  pub over : r .ended ≡ eqb (r .end - (endIn room i - atIn room i)) 0
+  pub over : r .ended ≡ eqb (r .end - unusedCount (length buffer) i) 0

@@ -8,7 +8,7 @@ ghost use mathlib.Core.Path.{_≡_};
 ghost use mathlib.Core.Bool.{false};
 ghost use Prim.Native.Nat.{_+_, _-_, _≤_};
 ghost use lib.ListN.{length};
-ghost use Rattle.text.specs.Input.{leastOf, frontInput, cutOf, lineOf, lastOf, restOf, takenOf, Filled};
+ghost use Rattle.text.specs.Input.{leastOf, frontInput, cutOf, lineOf, lastOf, restOf, takenOf, movedDown, Filled};
 
 // The unused bytes are those from `at` up to `end`. A line that was too long is being skipped; the input has ended.
 pub struct Input {
@@ -154,17 +154,21 @@ fn cut(line: Line, from: usize, to: usize, input: Input) -> Taken
     }
 }
 
+// One read gives at most so many bytes: so a file is read in parts as a pipe is, and what is said of parts is tried by every test.
+const READ_ROOM: usize = 16_384;
+
 // The unused bytes are moved to the front, and what one read gives is put behind them. A read that gives nothing, or fails,
 // is the input's end.
 pub fn fill(buffer: &mut [u8], input: Input) -> Input
-    ensures { λ r. ⌜ Filled (length (now (buffer .entry))) input r ⌝ }
+    ensures { λ r. ⌜ Filled (now (buffer .entry)) input r (now (buffer .exit)) ⌝ }
 {
     let end = least(input.end, buffer.len());
     let at = least(input.at, end);
     let rest = end - at;
     move_down(buffer, at, rest);
-    let got = libc::read(STDIN_FILENO, &mut buffer[rest..]);
-    let count = io::count(got, &buffer[rest..]);
+    let stop = rest + least(buffer.len() - rest, READ_ROOM);
+    let got = libc::read(STDIN_FILENO, &mut buffer[rest..stop]);
+    let count = io::count(got, &buffer[rest..stop]);
     Input {
         at: 0,
         end: rest + count,
@@ -176,6 +180,7 @@ pub fn fill(buffer: &mut [u8], input: Input) -> Input
 // So many bytes from a place on, to the front.
 fn move_down(buffer: &mut [u8], from: usize, count: usize)
     requires { ⌜ from + count ≤ length (now buffer) ⌝ }
+    ensures { λ _. ⌜ now (buffer .exit) ≡ movedDown (now (buffer .entry)) from count ⌝ }
 {
     if from == 0 {
         return;

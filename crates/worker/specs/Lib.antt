@@ -1,4 +1,5 @@
+pub mod Inner
+pub mod Place
+pub mod Reply
 pub mod Ring
 pub mod Worker
-pub mod Statement
-pub mod Isolation

@@ -2,7 +2,7 @@ use native.Mathlib.Omega.{arith}
 use mathlib.Core.Logic.{⊎-elim}
 use borrow.Author.Needs.{needs}
 use borrow.Author.Tests.{ne-eqb}
-use Rattle.base.specs.Range.{within, inside, below, above}
+use Rattle.base.specs.Range.{within, is-within, below, above}
 use Rattle.char_class.specs.Class.{isIdCont}
 use Rattle.char_class.proofs.id_cont.Statement.{statement}
 use Rattle.char_class.proofs.id_cont.Tie as tie
@@ -26,7 +26,7 @@ returns-2 c = rw (c .match .keys1)
 -- a digit
 returns-3 : tie.Need-returns-3
 unfolding isIdCont
-returns-3 c = simp (inside 48 57 (c .before .before .before .args .b) (omega arith) (omega arith))
+returns-3 c = simp (is-within 48 57 (c .before .before .before .args .b) (omega arith) (omega arith))
 
 pub id-cont-spec : {M : Type 1} → statement M
 id-cont-spec = tie.close (tie.spec (λ c κs. search needs) returns returns-2 returns-3)

@@ -3,7 +3,7 @@ use mathlib.Core.Logic.{⊎-elim}
 use mathlib.Core.List.{[], _∷_}
 use Rattle.base.specs.Byte.{dollarSign, underscore}
 use Rattle.base.specs.If.{among, none-of}
-use Rattle.base.specs.Range.{within, inside, below, above}
+use Rattle.base.specs.Range.{within, is-within, below, above}
 use Rattle.char_class.specs.Class.{isIdStart}
 use Rattle.char_class.proofs.id_start.Statement.{statement}
 use Rattle.char_class.proofs.id_start.Tie as tie
@@ -37,14 +37,14 @@ returns-4 c = ⊎-elim (λ e. rw e) (λ e. rw e) (c .match .keys1)
 -- a capital
 returns-5 : tie.Need-returns-5
 unfolding isIdStart
-returns-5 c = simp (inside 65 90 (c .before .before .before .args .b) (omega arith) (omega arith))
+returns-5 c = simp (is-within 65 90 (c .before .before .before .args .b) (omega arith) (omega arith))
 
 -- a small letter
 returns-6 : tie.Need-returns-6
 unfolding isIdStart
 returns-6 c =
     let b = c .before .before .before .before .before .args .b in
-    simp (above 65 90 b (omega arith), inside 97 122 b (omega arith) (omega arith))
+    simp (above 65 90 b (omega arith), is-within 97 122 b (omega arith) (omega arith))
 
 pub id-start-spec : {M : Type 1} → statement M
 id-start-spec = tie.close (tie.spec returns returns-2 returns-3 returns-4 returns-5 returns-6)

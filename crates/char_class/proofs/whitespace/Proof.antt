@@ -1,6 +1,6 @@
 use native.Mathlib.Omega.{arith}
 use borrow.Author.Tests.{ne-eqb}
-use Rattle.base.specs.Range.{within, inside, below, above}
+use Rattle.base.specs.Range.{within, is-within, below, above}
 use Rattle.char_class.specs.Class.{isWhitespace}
 use Rattle.char_class.proofs.whitespace.Statement.{statement}
 use Rattle.char_class.proofs.whitespace.Tie as tie
@@ -25,7 +25,7 @@ returns-3 c = rw (c .match .keys1)
 -- from tab to carriage return
 returns-4 : tie.Need-returns-4
 unfolding isWhitespace
-returns-4 c = simp (inside 9 13 (c .before .before .before .args .b) (omega arith) (omega arith))
+returns-4 c = simp (is-within 9 13 (c .before .before .before .args .b) (omega arith) (omega arith))
 
 pub whitespace-spec : {M : Type 1} → statement M
 whitespace-spec = tie.close (tie.spec returns returns-2 returns-3 returns-4)

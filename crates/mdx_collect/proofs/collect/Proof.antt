@@ -27,7 +27,7 @@ returns-3 c =
     let g = o .before .before in
     let f = g .before in
     let a = f .before in
-    in-scratch _ _ _ _ _ (sym (a .before .is-asked .ensures) ∙ not-false _ (a .if1 .left)) (f .first-of .ensures) (g .seam-of .ensures) _ _ (sym (o .before .only-prefix .ensures) ∙ o .if2 .left) (k .copied .ensures)
+    in-scratch _ _ _ _ _ (sym (a .before .is-asked .ensures) ∙ not-false _ (a .if1 .left)) (f .first-of .ensures) (g .seam-of .ensures) (k .copied .result) _ (sym (o .before .only-prefix .ensures) ∙ o .if2 .left) (k .copied .ensures)
 
 pub collect-spec : {M : Type 1} → statement M
 collect-spec =

@@ -4,7 +4,7 @@ use lib.ListN.{length}
 use borrow.Author.Needs.{needs}
 use borrow.Author.Tests.{le-leb, lt-leb}
 use Rattle.base.specs.If.{if-yes, if-no}
-use Rattle.body.specs.Body.{expressionPlaces}
+use Rattle.body_places.specs.Body.{expressionPlaces}
 use Rattle.mdx_collect.proofs.copied.Statement.{statement}
 use Rattle.mdx_collect.proofs.copied.Tie as tie
 

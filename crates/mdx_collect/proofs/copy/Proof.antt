@@ -9,8 +9,8 @@ use borrow.Author.Needs.{needs}
 use borrow.Author.Tests.{ltb-true}
 use Rattle.base.specs.If.{both}
 use Rattle.base.specs.Page.{byteAt}
-use Rattle.bound.specs.Place.{byte-in}
-use Rattle.body.specs.Body.{inPrefix, prefixAfter, placesFrom, expressionPlaces, bytesAt}
+use Rattle.body_places.proofs.Place.{byte-in}
+use Rattle.body_places.specs.Body.{inPrefix, prefixAfter, placesFrom, expressionPlaces, bytesAt}
 use Rattle.mdx_collect.proofs.Laws.{passed-over, counted, passed-by, put-one, all-put}
 use Rattle.mdx_collect.proofs.copy.Statement.{statement}
 use Rattle.mdx_collect.proofs.copy.Tie as tie

@@ -5,7 +5,7 @@ use lib.ListN.{length}
 use borrow.Author.Needs.{needs}
 use borrow.Author.Tests.{ltb-true}
 use Rattle.base.specs.If.{both}
-use Rattle.body.specs.Body.{placesFrom, expressionPlaces}
+use Rattle.body_places.specs.Body.{placesFrom, expressionPlaces}
 use Rattle.mdx_collect.proofs.Laws.{passed-over, counted, all-counted}
 use Rattle.mdx_collect.proofs.count.Statement.{statement}
 use Rattle.mdx_collect.proofs.count.Tie as tie

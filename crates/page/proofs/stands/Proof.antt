@@ -6,7 +6,7 @@ use borrow.Author.Tests.{le-ltb, lt-ltb}
 use lib.Dec.{ltb}
 use lib.ListN.{length, getD}
 use Rattle.base.specs.If.{and-yes, and-no, and-no′}
-use Rattle.base.specs.Range.{inside, below, above}
+use Rattle.base.specs.Range.{is-within, below, above}
 use Rattle.page.specs.Utf8.{Range, holds, holdsAt}
 use Rattle.page.proofs.stands.Statement.{statement}
 use Rattle.page.proofs.stands.Tie as tie
@@ -46,7 +46,7 @@ returns-4 c =
     let r : Range = (a .low, a .high) in
     sym
     (and-yes (ltb (a .at) (length page)) (holds r (getD page (a .at) 0)) (lt-ltb (a .at) (length page) (omega arith))
-    (inside (a .low) (a .high) (getD page (a .at) 0) (omega arith) (omega arith)))
+    (is-within (a .low) (a .high) (getD page (a .at) 0) (omega arith) (omega arith)))
 
 pub stands-spec : {M : Type 1} → statement M
 stands-spec = tie.close (tie.spec returns shared-slice-read-byte returns-2 returns-3 returns-4)

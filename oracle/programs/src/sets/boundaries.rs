@@ -49,6 +49,7 @@ const SETTLED: [(Construct, &str); 50] = [
     // Slashes, notes, names.
     (Tag, "</a/>"),
     (Tag, "</ a>"),
+    // No run of the crate: its identifier helper is not given (DECISIONS.md, 3).
     (Tag, "<a$b>"),
     (Tag, "<a-b>"),
     (Tag, "<\u{b}a>"),

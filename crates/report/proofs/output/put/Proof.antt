@@ -15,7 +15,7 @@ same-length : tie.Need-same-length
 same-length c = search needs
 
 returns : tie.Need-returns
-returns c = rw (c .before .before .before .before .before .make-room .ensures .0) at (c .before .before .text .ensures)
+returns c = rw (c .before .before .before .before .before .make-room .ensures .0) at (c .before .before .text .ensures .1)
 
 pub put-spec : {M : Type 1} → statement M
 put-spec =

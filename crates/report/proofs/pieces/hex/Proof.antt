@@ -1,5 +1,5 @@
-use Rattle.report.proofs.Copied.{put-as}
-use Rattle.report.proofs.Digits.{no-bytes, field-past, field-no-room, field-put}
+use Rattle.report.proofs.Puts.{put-as}
+use Rattle.report.proofs.Digits.{no-bytes, field-no-room, field-put}
 use borrow.Author.Needs.{needs}
 use Rattle.report.proofs.pieces.hex.Statement.{statement}
 use Rattle.report.proofs.pieces.hex.Tie as tie
@@ -14,20 +14,21 @@ same-length : tie.Need-same-length
 same-length c = search needs
 
 returns : tie.Need-returns
-returns c = put-as (no-bytes (c .before .before .before .before .before .before .before .before .args .bytes .now) (c .before .before .before .before .before .if1 .taken)) (c .before .before .text .ensures)
+returns c =
+    let a = c .before .before .before .before .before .before .before .before .args in
+    put-as (a .out .now) (a .at) (no-bytes (a .bytes .now) (c .before .before .before .before .before .if1 .taken)) (c .before .before .text .ensures .1)
+
+in-room-requires : tie.Need-in-room-requires
+in-room-requires c κs = search needs
+
+sub-if2 : tie.Need-sub-if2
+sub-if2 c = search needs
 
 returns-2 : tie.Need-returns-2
 returns-2 c =
-    let a = c .before .before .before .before .args in
-    field-past (a .out .now) (a .bytes .now) (a .at) (c .before .if1 .left) (c .if2 .taken)
-
-sub-if3 : tie.Need-sub-if3
-sub-if3 c = search needs
-
-returns-3 : tie.Need-returns-3
-returns-3 c =
     let a = c .before .before .before .before .before .args in
-    field-no-room (a .out .now) (a .bytes .now) (a .at) (c .before .before .if1 .left) (c .before .if2 .left) (c .if3 .taken)
+    let place = c .before .in-room in
+    field-no-room (a .out .now) (a .bytes .now) (a .at) (place .result) (c .before .before .if1 .left) (place .ensures .0) (c .if2 .taken)
 
 put-digits-requires : tie.Need-put-digits-requires
 put-digits-requires c κs = search needs
@@ -41,11 +42,12 @@ add-result c = search needs
 same-length-2 : tie.Need-same-length-2
 same-length-2 c = search needs
 
-returns-4 : tie.Need-returns-4
-returns-4 c =
+returns-3 : tie.Need-returns-3
+returns-3 c =
     let a = c .before .before .before .before .before .before .before .before .before .args in
+    let place = c .before .before .before .before .before .in-room in
     let done = c .before .before .put-digits in
-    field-put (a .out .now) (a .bytes .now) (a .at) (c .before .before .before .before .before .before .if1 .left) (c .before .before .before .before .before .if2 .left) (done .last .0) (c .before .before .before .before .if3 .left) (done .ensures)
+    field-put (a .out .now) (a .bytes .now) (a .at) (place .result) (c .before .before .before .before .before .before .if1 .left) (place .ensures .0) (done .last .0) (c .before .before .before .before .if2 .left) (done .ensures)
 
 pub hex-spec : {M : Type 1} → statement M
 hex-spec =
@@ -55,11 +57,11 @@ hex-spec =
     text-requires
     same-length
     returns
+    in-room-requires
+    sub-if2
     returns-2
-    sub-if3
-    returns-3
     put-digits-requires
     mul-result
     add-result
     same-length-2
-    returns-4)
+    returns-3)

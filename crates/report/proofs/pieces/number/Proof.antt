@@ -1,4 +1,6 @@
-use Rattle.report.proofs.Copied.{put-as}
+use Rattle.report.proofs.Puts.{put-as}
+use Rattle.report.proofs.Decimals.{fewest-is}
+use mathlib.Core.Path.{_∙_}
 use borrow.Author.Needs.{needs}
 use Rattle.report.proofs.pieces.number.Statement.{statement}
 use Rattle.report.proofs.pieces.number.Tie as tie
@@ -20,8 +22,9 @@ same-length c = search needs
 
 returns : tie.Need-returns
 returns c =
+    let a = c .before .before .before .before .before .before .before .before .args in
     let d = c .before .before .before .before .before .decimal in
-    record { count = d .result; fewest = d .ensures .1 .0; puts = put-as (d .ensures .1 .1) (c .before .before .text .ensures) }
+    put-as (a .out .now) (a .at) (d .ensures .1 .1 ∙ fewest-is (d .result) (a .n) (d .ensures .1 .0)) (c .before .before .text .ensures .1)
 
 pub number-spec : {M : Type 1} → statement M
 number-spec =

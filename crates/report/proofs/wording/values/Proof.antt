@@ -1,4 +1,4 @@
--- The three values, one after the other.
+use Rattle.report.proofs.Puts.{then-put}
 use borrow.Author.Needs.{needs}
 use Rattle.report.proofs.wording.values.Statement.{statement}
 use Rattle.report.proofs.wording.values.Tie as tie
@@ -17,17 +17,8 @@ same-length c = search needs
 
 returns : tie.Need-returns
 returns c =
-    let one = c .before .before .before .before .before .before .before .before .before .before .before .before .value in
-    let two = c .before .before .before .before .before .before .before .value2 in
-    let three = c .before .before .value3 in (
-      three .ensures .0,
-      record {
-        middle = one .last .0;
-        place = one .result;
-        first = one .ensures .1;
-        second = record { middle = two .last .0; place = two .result; first = two .ensures .1; second = three .ensures .1 };
-      },
-    )
+    let two = then-put _ _ _ _ (c .before .before .before .before .before .before .before .value2 .ensures) (c .before .before .value3 .ensures) in
+    then-put _ _ _ _ (c .before .before .before .before .before .before .before .before .before .before .before .before .value .ensures) two
 
 pub values-spec : {M : Type 1} → statement M
 values-spec =

@@ -5,4 +5,4 @@ use Rattle.scan.proofs.Scan.fresh.Tie as tie
 
 pub fresh-spec : {M : Type 1} → statement M
 unfolding freshScan
-fresh-spec = tie.close (tie.spec (λ c κs. search needs) (λ c. rw (c .first-state .ensures)))
+fresh-spec = tie.close (tie.spec (λ c κs. search needs) (λ c κs. search needs) (λ c. rw (c .first-state .ensures, c .before .no-regs .ensures)))

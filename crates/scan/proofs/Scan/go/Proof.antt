@@ -32,7 +32,7 @@ loop-again c =
     let g = c .before .before .before in
     let t = g .before in
     let l = t .before .before .before in
-    let e = glide _ _ _ _ _ (t .byte-at .ensures) (sym (g .glides .ensures) ∙ c .before .before .if2 .taken) (c .before .eat .ensures) in
+    let e = glide _ _ _ _ _ _ (t .byte-at .ensures) (g .glides .ensures) (c .before .before .if2 .taken) (c .before .eat .ensures) in
     going-more (l .loop .inv) (t .before .before .loop-test .taken) (t .before .if1 .left) (c .moved .ensures ∙ e .0) (e .1) refl
 
 -- the general step

@@ -4,8 +4,8 @@ use mathlib.Core.Path.{ap, _∙_}
 use borrow.Author.Needs.{needs}
 use borrow.Author.Tests.{lt-ltb, le-ltb}
 use Rattle.base.specs.Decide.{countOf}
-use Rattle.machine.specs.Machine.{decision}
-use Rattle.words.specs.Words.{roomIn}
+use Rattle.tokenizer.specs.Decision.{decision}
+use Rattle.events.specs.Words.{roomIn}
 use Rattle.scan.specs.Scan.{choice}
 use Rattle.scan.proofs.Steps.{few-marks, few-count, fits, none, lacking}
 use Rattle.scan.proofs.Scan.one_step.Statement.{statement}

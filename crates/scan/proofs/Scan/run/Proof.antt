@@ -14,7 +14,7 @@ unfolding runOf
 returns c =
     let g = c .before .before .before in
     let k = g .before .before .before in
-    if-yes _ _ _ _ _ (sym (k .runnable .ensures) ∙ g .before .before .if1 .taken) (rw (c .answer .ensures, g .go .ensures .0, g .go .ensures .1))
+    if-yes _ _ _ _ _ (sym (k .runnable .ensures) ∙ g .before .before .if1 .taken) (rw (c .stands .ensures, g .go .ensures .0, g .go .ensures .1))
 
 returns-2 : tie.Need-returns-2
 unfolding runOf

@@ -5,7 +5,7 @@ use mathlib.Core.Path.{refl}
 use borrow.Author.Needs.{needs}
 use Rattle.base.specs.Byte.{digit0, digit9, smallA}
 use Rattle.base.specs.If.{if_then_else_, if-yes, if-no}
-use Rattle.base.specs.Range.{within, inside, below, above}
+use Rattle.base.specs.Range.{within, is-within, below, above}
 use Rattle.text.specs.Hex.{smallF, hexValue}
 use Rattle.text.proofs.hexadecimal.hex_value.Statement.{statement}
 use Rattle.text.proofs.hexadecimal.hex_value.Tie as tie
@@ -18,14 +18,14 @@ unfolding hexValue
 returns c =
     let b = c .before .before .args .byte in
     if-yes ℕ (within digit0 digit9 b) (b - digit0) (b - digit0) (if within smallA smallF b then b - smallA + 10 else 16)
-    (inside digit0 digit9 b (omega arith) (omega arith)) refl
+    (is-within digit0 digit9 b (omega arith) (omega arith)) refl
 
 returns-2 : tie.Need-returns-2
 unfolding hexValue
 returns-2 c =
     let b = c .before .before .before .before .args .byte in
     if-no ℕ (within digit0 digit9 b) (b - smallA + 10) (b - digit0) (if within smallA smallF b then b - smallA + 10 else 16) (above digit0 digit9 b (omega arith))
-    (if-yes ℕ (within smallA smallF b) (b - smallA + 10) (b - smallA + 10) 16 (inside smallA smallF b (omega arith) (omega arith)) refl)
+    (if-yes ℕ (within smallA smallF b) (b - smallA + 10) (b - smallA + 10) 16 (is-within smallA smallF b (omega arith) (omega arith)) refl)
 
 returns-3 : tie.Need-returns-3
 unfolding hexValue

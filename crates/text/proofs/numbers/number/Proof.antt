@@ -7,7 +7,7 @@ use lib.Dec.{lit<}
 use lib.ListN.{length, getD, drop, drop-of-length-le}
 use Rattle.base.specs.Byte.{digit0, digit9}
 use Rattle.base.specs.If.{picks, and-no}
-use Rattle.base.specs.Range.{within, inside, below, above}
+use Rattle.base.specs.Range.{within, is-within, below, above}
 use Rattle.text.specs.Decimal.{allDigits, valueFrom}
 use Rattle.text.proofs.Digits.{digits-at, value-at, grows, ten-digits}
 use Rattle.text.proofs.numbers.number.Statement.{statement}
@@ -94,7 +94,7 @@ loop-again c =
     let high : getD s (l .at) 0 ≤ digit9 = omega arith in (
       omega arith,
       grows (l .at) (l .value) (getD s (l .at) 0 - digit0) (i .1) (omega arith),
-      i .2 ∙ digits-at s (l .at) here ∙ rw (inside digit0 digit9 (getD s (l .at) 0) low high),
+      i .2 ∙ digits-at s (l .at) here ∙ rw (is-within digit0 digit9 (getD s (l .at) 0) low high),
       i .3 ∙ value-at s (l .at) here (l .value),
     )
 

@@ -11,13 +11,13 @@ returns : tie.Need-returns
 returns c =
     let n = c .before .before in
     let a = n .before .before .args in
-    c .refuse .ensures ∙ admit-unlisted (a .bytes .now) (a .at) (a .length) (a .start) (a .construct) (a .kind) (a .flags) (a .self) (sym (n .numbers-listed .ensures) ∙ not-yes _ (c .before .if1 .taken))
+    rw (c .refuse .ensures) (admit-unlisted (a .bytes .now) (a .at) (a .length) (a .start) (a .construct) (a .kind) (a .flags) (a .self) (sym (n .numbers-listed .ensures) ∙ not-yes _ (c .before .if1 .taken)))
 
 returns-2 : tie.Need-returns-2
 returns-2 c =
     let r = c .before .before in
     let a = r .before .before .before .before .args in
-    c .refuse2 .ensures ∙ admit-forged (a .bytes .now) (a .at) (a .length) (a .start) (a .construct) (a .kind) (a .flags) (a .self) (sym (r .in-range .ensures) ∙ not-yes _ (c .before .if2 .taken))
+    rw (c .refuse2 .ensures) (admit-forged (a .bytes .now) (a .at) (a .length) (a .start) (a .construct) (a .kind) (a .flags) (a .self) (sym (r .in-range .ensures) ∙ not-yes _ (c .before .if2 .taken)))
 
 returns-3 : tie.Need-returns-3
 returns-3 c =
@@ -38,7 +38,7 @@ returns-4 c =
     c .place .ensures
     ∙ admit-placed (a .bytes .now) (a .at) (a .length) (a .start) (a .construct) (a .kind) (a .flags) (a .self)
     (sym (n .before .numbers-listed .ensures) ∙ not-no _ (n .if1 .left)) (sym (r .before .in-range .ensures) ∙ not-no _ (r .if2 .left)) (l .lowest .result) (l .lowest .ensures) (h .if3 .left)
-    (c .before .new .result)
+    _
     (c .before .new .ensures ∙ ap (λ (m : ℕ). beginOf (a .bytes .now) (a .at) (a .length) (a .start) (a .construct) (a .kind) (a .flags) m) (c .before .before .share-of .ensures))
 
 pub admit-spec : {M : Type 1} → statement M

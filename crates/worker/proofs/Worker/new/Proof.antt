@@ -16,8 +16,8 @@ returns-2 : tie.Need-returns-2
 returns-2 c =
     let f = c .before .before .before in
     let a = f .before .args in
-    c .refuse .ensures
-    ∙ start-no (a .q) (a .words) _ (ap (λ (p : Place). record { places = replicate 16 p; last = 15; q = a .q; words = a .words }) (f .free-place .ensures)) (sym (c .before .before .in-range .ensures) ∙ c .before .if1 .left)
+    rw (c .refuse .ensures)
+    (start-no (a .q) (a .words) _ (ap (λ (p : Place). record { places = replicate 16 p; last = 15; q = a .q; words = a .words }) (f .free-place .ensures)) (sym (c .before .before .in-range .ensures) ∙ c .before .if1 .left))
 
 pub new-spec : {M : Type 1} → statement M
 new-spec = tie.close (tie.spec (λ c κs. search needs) (λ c. search needs) (λ c κs. search needs) returns (λ c κs. search needs) returns-2)

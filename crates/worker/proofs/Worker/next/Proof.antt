@@ -1,5 +1,6 @@
-use Rattle.worker.specs.Worker.{nextIn, running, at}
-use Rattle.worker.specs.Ring.{seek, seek-here, seek-on, seek-none}
+use Rattle.worker.specs.Place.{placeIn, running, nextIn}
+use Rattle.worker.proofs.Ring.{seek-here, seek-on, seek-none}
+use Rattle.worker.specs.Ring.{seek}
 use borrow.Author.Needs.{needs}
 use native.Mathlib.Omega.{arith}
 use Prim.Native.Nat.{_-_, _≤_, _<_}
@@ -8,7 +9,7 @@ use Rattle.worker.proofs.Worker.next.Statement.{statement}
 use Rattle.worker.proofs.Worker.next.Tie as tie
 
 abbrev Inv-loop : tie.InvT-loop
-Inv-loop self j₀ k₀ j k = (k ≤ 16) × (j < 16) × (nextIn (self .places) (self .last) ≡ seek (λ n. running (at (self .places) n)) j (16 - k))
+Inv-loop self j₀ k₀ j k = (k ≤ 16) × (j < 16) × (nextIn (self .places) (self .last) ≡ seek (λ n. running (placeIn (self .places) n)) j (16 - k))
 
 abbrev μ-loop : tie.MeasureT-loop
 μ-loop self j₀ k₀ j k = 16 - k
@@ -29,7 +30,7 @@ is-running-requires : tie.Need-is-running-requires Inv-loop μ-loop
 is-running-requires c κs = search needs
 
 returns : tie.Need-returns Inv-loop μ-loop
-returns c = sym (c .before .before .before .before .loop .inv .2 ∙ seek-here (λ n. running (at (c .before .before .before .before .before .args .t1 .places) n)) (c .before .before .before .before .loop .j) (16 - c .before .before .before .before .loop .k) (omega arith) (sym (c .before .is-running .ensures) ∙ c .if1 .taken))
+returns c = sym (c .before .before .before .before .loop .inv .2 ∙ seek-here (λ n. running (placeIn (c .before .before .before .before .before .args .t1 .places) n)) (c .before .before .before .before .loop .j) (16 - c .before .before .before .before .loop .k) (omega arith) (sym (c .before .is-running .ensures) ∙ c .if1 .taken))
 
 add-j-2 : tie.Need-add-j-2 Inv-loop μ-loop
 add-j-2 c = search needs
@@ -44,11 +45,11 @@ loop-again : tie.Need-loop-again Inv-loop μ-loop
 loop-again c = (
   search needs,
   search needs,
-  c .before .before .before .before .loop .inv .2 ∙ seek-on (λ n. running (at (c .before .before .before .before .before .args .t1 .places) n)) (c .before .before .before .before .loop .j) (16 - c .before .before .before .before .loop .k) (omega arith) (sym (c .before .is-running .ensures) ∙ c .if1 .left) ∙ ap (seek (λ n. running (at (c .before .before .before .before .before .args .t1 .places) n)) _) (omega arith),
+  c .before .before .before .before .loop .inv .2 ∙ seek-on (λ n. running (placeIn (c .before .before .before .before .before .args .t1 .places) n)) (c .before .before .before .before .loop .j) (16 - c .before .before .before .before .loop .k) (omega arith) (sym (c .before .is-running .ensures) ∙ c .if1 .left) ∙ ap (seek (λ n. running (placeIn (c .before .before .before .before .before .args .t1 .places) n)) _) (omega arith),
 )
 
 returns-2 : tie.Need-returns-2 Inv-loop μ-loop
-returns-2 c = sym (c .before .loop .inv .2 ∙ seek-none (λ n. running (at (c .before .before .args .t1 .places) n)) (c .before .loop .j) (16 - c .before .loop .k) (omega arith))
+returns-2 c = sym (c .before .loop .inv .2 ∙ seek-none (λ n. running (placeIn (c .before .before .args .t1 .places) n)) (c .before .loop .j) (16 - c .before .loop .k) (omega arith))
 
 pub next-spec : {M : Type 1} → statement M
 next-spec =

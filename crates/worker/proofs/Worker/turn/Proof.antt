@@ -1,23 +1,23 @@
-use mathlib.Core.Path.{sym, ap, _∙_}
+use mathlib.Core.Path.{sym, _∙_}
 use lib.ListN.{length}
 use borrow.Author.Needs.{needs}
-use Rattle.base.specs.If.{not-yes}
-use Rattle.worker.specs.declared.Done.{Done}
-use Rattle.worker.specs.Worker.{at, ready, did}
-use Rattle.worker.proofs.Laws.{not-no, in-ring, ready-lies, turn-length, turn-forged, turn-idle, turn-unready, turn-served}
+use Rattle.base.specs.If.{not-yes, both}
+use Rattle.worker.specs.Place.{placeIn}
+use Rattle.worker.specs.Worker.{liesIn}
+use Rattle.worker.proofs.Laws.{not-no, in-ring, lies, turn-length, turn-forged, turn-idle, turn-unready, turn-served}
 use Rattle.worker.proofs.Worker.turn.Statement.{statement}
 use Rattle.worker.proofs.Worker.turn.Tie as tie
 
 returns : tie.Need-returns
 returns c =
     let a = c .before .before .before .before .args in
-    ap (λ (d : Done). did d (a .events .now)) (c .refuse .ensures) ∙ turn-length (a .bytes .now) (a .t1) (a .events .now) (c .before .if1 .taken)
+    rw (c .refuse .ensures) (turn-length (a .bytes .now) (a .t1) (a .events .now) (c .before .if1 .taken))
 
 returns-2 : tie.Need-returns-2
 returns-2 c =
     let r = c .before .before in
     let a = r .before .before .before .before .args in
-    ap (λ (d : Done). did d (a .events .now)) (c .refuse2 .ensures) ∙ turn-forged (a .bytes .now) (a .t1) (a .events .now) (sym (r .in-range .ensures) ∙ not-yes _ (c .before .if2 .taken))
+    rw (c .refuse2 .ensures) (turn-forged (a .bytes .now) (a .t1) (a .events .now) (sym (r .in-range .ensures) ∙ not-yes _ (c .before .if2 .taken)))
 
 next-requires : tie.Need-next-requires
 next-requires c κs = in-ring _ (sym (c .before .in-range .ensures) ∙ not-no _ (c .if2 .left))
@@ -38,9 +38,9 @@ returns-4 c =
     let r = n .before in
     let l = r .before .before in
     let a = l .before .before .before .args in
-    ap (λ (x : Done). did x (a .events .now)) (c .refuse3 .ensures)
-    ∙ turn-unready (a .bytes .now) (a .t1) (a .events .now) (l .if1 .left) (sym (r .before .in-range .ensures) ∙ not-no _ (r .if2 .left)) (n .next .result) (n .next .ensures) (h .if3 .left)
-    (ap (ready (at (a .t1 .places) (n .next .result)) (length (a .bytes .now))) (sym (d .before .share-of .ensures)) ∙ sym (d .is-ready .ensures) ∙ not-yes _ (c .before .if4 .taken))
+    rw (c .refuse3 .ensures)
+    (turn-unready (a .bytes .now) (a .t1) (a .events .now) (l .if1 .left) (sym (r .before .in-range .ensures) ∙ not-no _ (r .if2 .left)) (n .next .result) (n .next .ensures) (d .before .share-of .result) (d .before .share-of .ensures) (h .if3 .left)
+    (sym (d .is-ready .ensures) ∙ not-yes _ (c .before .if4 .taken)))
 
 serve-requires : tie.Need-serve-requires
 serve-requires c κs =
@@ -49,10 +49,11 @@ serve-requires c κs =
     let n = h .before in
     let l = n .before .before .before in
     let a = l .before .before .before .args in
+    let p = placeIn (a .t1 .places) (n .next .result) in
     record {
       place = h .if3 .left;
       buffer = l .if1 .left;
-      page = ready-lies (at (a .t1 .places) (n .next .result)) (length (a .bytes .now)) (d .before .share-of .result) (sym (d .is-ready .ensures) ∙ not-no _ (c .before .if4 .left));
+      page = lies p (length (a .bytes .now)) (both (liesIn p (length (a .bytes .now))) _ (sym (d .is-ready .ensures) ∙ not-no _ (c .before .if4 .left)) .0);
     }
 
 returns-5 : tie.Need-returns-5
@@ -66,8 +67,8 @@ returns-5 c =
     let l = r .before .before in
     let a = l .before .before .before .args in
     s .serve .ensures
-    ∙ turn-served (a .bytes .now) (a .t1) (a .events .now) (l .if1 .left) (sym (r .before .in-range .ensures) ∙ not-no _ (r .if2 .left)) (n .next .result) (n .next .ensures) (h .if3 .left)
-    (ap (ready (at (a .t1 .places) (n .next .result)) (length (a .bytes .now))) (sym (d .before .share-of .ensures)) ∙ sym (d .is-ready .ensures) ∙ not-no _ (f .if4 .left))
+    ∙ turn-served (a .bytes .now) (a .t1) (a .events .now) (l .if1 .left) (sym (r .before .in-range .ensures) ∙ not-no _ (r .if2 .left)) (n .next .result) (n .next .ensures) (d .before .share-of .result) (d .before .share-of .ensures) (h .if3 .left)
+    (sym (d .is-ready .ensures) ∙ not-no _ (f .if4 .left))
 
 pub turn-spec : {M : Type 1} → statement M
 turn-spec =

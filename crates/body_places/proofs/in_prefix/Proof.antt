@@ -1,0 +1,13 @@
+use Rattle.base.specs.If.{picks}
+use borrow.Author.Needs.{needs}
+use Rattle.body_places.proofs.in_prefix.Statement.{statement}
+use Rattle.body_places.proofs.in_prefix.Tie as tie
+
+pub in-prefix-spec : {M : Type 1} → statement M
+in-prefix-spec =
+    tie.close
+    (tie.spec
+    (λ c. search picks depth 12)
+    (λ c κs. search needs)
+    (λ c. search picks depth 12)
+    (λ c. search picks depth 12))

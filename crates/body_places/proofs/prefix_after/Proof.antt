@@ -1,0 +1,10 @@
+use Rattle.base.specs.If.{picks}
+use Rattle.body_places.proofs.prefix_after.Statement.{statement}
+use Rattle.body_places.proofs.prefix_after.Tie as tie
+
+pub prefix-after-spec : {M : Type 1} → statement M
+prefix-after-spec =
+    tie.close
+    (tie.spec
+    (λ c. search picks depth 12)
+    (λ c. search picks depth 12))

@@ -1,0 +1,11 @@
+pub mod Fold
+pub mod After
+pub mod Places
+pub mod Kept
+pub mod ExpressionSteps
+pub mod TagSteps
+pub mod EsmSteps
+pub mod Together
+pub mod OneBody
+pub mod Parts
+pub mod Errors

@@ -1,0 +1,79 @@
+-- The body three ways, for an auditor to read: as `collect` hands it over, as the page's lines say it, and as the events say it. For every scan
+-- that calls gave they are the same. A verdict that says error is placed by it.
+use Prim.Native.Nat.{ℕ, _+_, _<_}
+use mathlib.Core.Path.{_≡_}
+use mathlib.Core.Bool.{true}
+use mathlib.Core.List.{List, [], _∷_}
+use lib.Dec.{eqb}
+use lib.ListN.{length, getD}
+use Rattle.base.specs.If.{if_then_else_}
+use Rattle.base.specs.Page.{byteAt}
+use Rattle.base.specs.Range.{within}
+use Rattle.base.specs.State.{asking}
+use Rattle.base.specs.declared.Verdict.the-variants.{Wrong}
+use Rattle.body_places.specs.Body.{expressionPlaces, esmPlaces, bytesAt, placeOf}
+use Rattle.events.specs.declared.Event.{Event}
+use Rattle.events.specs.Words.{eventsIn}
+use Rattle.page.specs.Page.{pageOf}
+use Rattle.tokenizer.specs.Ranges.{esm, largestNumber}
+use Rattle.scan.specs.declared.Scan.{Scan}
+use Rattle.scan.specs.Answer.{Said, said}
+use Rattle.scan.specs.Call.{started, beginOf, runOf, giveOf}
+use Rattle.scan.specs.Statement.{Call, run, give, scanAfter, wordsAfter, eventsAfter}
+use Rattle.mdx_collect.specs.Collect.{asked, bodyPlaces, bodyOf}
+use Rattle.body_theorems.specs.Events.{eventBody}
+
+-- ---- the body by the page's lines
+
+-- docs/SCOPE.md, 'Body': "The data and line endings in order, without line prefixes." 'Expression, with verdicts': "After a line ending, at most
+-- two tabs or spaces are a line prefix, not body." A block of ESM has no line prefixes.
+abbrev pub linePlaces : List ℕ → Scan → List ℕ
+linePlaces page s =
+    if eqb (s .tokenizer .job .construct) esm then esmPlaces (s .tokenizer .job .start) (s .tokenizer .at)
+    else expressionPlaces page (s .tokenizer .regs .body) (s .tokenizer .at)
+
+abbrev pub lineBody : List ℕ → Scan → List ℕ
+lineBody page s = bytesAt page (linePlaces page s)
+
+-- ---- the promise
+
+-- each run of the calls is over this page
+abbrev pub OverPage : List ℕ → List Call → Type 0
+OverPage page [] = Unit {0}
+OverPage page (run over k ∷ calls) = (over ≡ page) × OverPage page calls
+OverPage page (give v ∷ calls) = OverPage page calls
+
+-- A scan begins on a page, any calls are made over that page, whatever they answer, and it asks: what holds of the page, the scan, its event words
+-- and its events.
+abbrev pub OfEveryAskingScan : (List ℕ → Scan → List ℕ → List Event → Type 0) → Type 0
+OfEveryAskingScan P =
+    (bytes : List ℕ) (at n start construct kind flags : ℕ) (lent : List ℕ) (s : Scan)
+    → beginOf bytes at n start construct kind flags (length lent) ≡ started s
+    → (calls : List Call)
+    → let page = pageOf bytes at n in
+    OverPage page calls
+    → asked (scanAfter calls s lent) (length page) ≡ true
+    → P page (scanAfter calls s lent) (wordsAfter calls s lent) (eventsAfter calls s lent)
+
+-- what is handed over is what the lines say, and what the events say; and these are the events in its words
+abbrev pub OneBody : List ℕ → Scan → List ℕ → List Event → Type 0
+OneBody page s words events = (bodyOf page s ≡ lineBody page s) × (bodyOf page s ≡ eventBody page events) × (eventsIn words 0 (s .used) ≡ events)
+
+-- ---- a verdict that says error
+
+-- what the scan answers to a run, where that is the next verdict that it hears
+abbrev pub errorAnswer : List ℕ → Scan → List ℕ → ℕ → ℕ → ℕ → Said
+errorAnswer page s words number r allowance = runOf page allowance (giveOf s (Wrong number r) .scan) words .answer
+
+-- "A verdict error at body offset r is placed at that body byte; for r at or past the length, at the byte that asked."
+abbrev pub errorPlace : List ℕ → Scan → ℕ → ℕ
+errorPlace page s r = placeOf (bodyPlaces page s) r (s .tokenizer .at)
+
+-- it answers 8 with that place, the verdict's number, its event count and one step more, whatever the allowance; and the byte at that place is the
+-- body's byte r, or the byte that asked
+abbrev pub ErrorPlaced : List ℕ → Scan → List ℕ → List Event → Type 0
+ErrorPlaced page s words events =
+    (number r allowance : ℕ) → s .tokenizer .state ≡ asking → within 1 largestNumber number ≡ true → 0 < allowance
+    → let place = errorPlace page s r in
+    (errorAnswer page s words number r allowance ≡ said 8 (place ∷ number ∷ s .used ∷ (s .steps + 1) ∷ []))
+    × (byteAt page place ≡ getD (bodyOf page s) r (byteAt page (s .tokenizer .at)))

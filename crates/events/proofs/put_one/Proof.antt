@@ -1,0 +1,24 @@
+use native.Mathlib.Omega.{arith}
+use mathlib.Core.Path.{_∙_}
+use lib.ListN.{length-set}
+use borrow.Author.Needs.{needs}
+use Rattle.events.proofs.Laws.{one-written}
+use Rattle.events.proofs.put_one.Statement.{statement}
+use Rattle.events.proofs.put_one.Tie as tie
+
+pub put-one-spec : {M : Type 1} → statement M
+put-one-spec =
+    tie.close
+    (tie.spec
+    (λ c. search needs)
+    (λ c κs. search needs)
+    (λ c κs. search needs)
+    (λ c. search needs)
+    (λ c. search needs)
+    (λ c. search needs)
+    (λ c. search needs)
+    (λ c. simp length-set (omega arith))
+    (λ c. search needs)
+    (λ c.
+    let a = c .before .before .before .args in
+    rw (c .before .kind-word .ensures, c .offset-word .ensures) (one-written (a .words .now) (a .k) (a .at) (a .mark))))

@@ -1,0 +1,21 @@
+use Prim.Native.Nat.{_+_, _*_}
+use native.Mathlib.Omega.{arith}
+use mathlib.Core.Path.{sym}
+use borrow.Author.Needs.{needs}
+use lib.ListN.{List·getD-eq-default}
+use Rattle.events.proofs.read.Statement.{statement}
+use Rattle.events.proofs.read.Tie as tie
+
+pub read-spec : {M : Type 1} → statement M
+read-spec =
+    tie.close
+    (tie.spec
+    (λ c.
+    let a = c .before .before .args in
+    let h = c .if1 .taken in
+    rw (List·getD-eq-default (a .words .now) 0 {n = a .k * 2} (omega arith), List·getD-eq-default (a .words .now) 0 {n = a .k * 2 + 1} (omega arith)))
+    (λ c. search needs)
+    (λ c κs. search needs)
+    (λ c. search needs)
+    (λ c κs. search needs)
+    (λ c. rw (c .before .word-at .ensures, c .word-at2 .ensures)))

@@ -1,0 +1,5 @@
+pub mod Event
+pub mod Words
+pub mod Share
+pub mod Span
+pub mod Room

@@ -1,0 +1,50 @@
+-- Events in lent words. docs/SCOPE.md, 'The answer table': "An event is two 32-bit words: kind times 2, plus 1 for an exit; then the
+-- byte offset, counted like all places from the page's first byte."
+use Prim.Native.Nat.{ℕ, zero, suc, _+_, _*_, _/_, _%_}
+use mathlib.Core.Bool.{Bool, true, false}
+use mathlib.Core.List.{List, [], _∷_}
+use lib.Dec.{eqb}
+use lib.ListN.{getD}
+use lib.Seq.{sets}
+use Rattle.base.specs.declared.Mark.{Mark}
+use Rattle.events.specs.declared.Event.{Event}
+use Rattle.events.specs.Event.{event, eventAt}
+
+-- the words of an event
+abbrev pub width : ℕ
+width = 2
+
+-- how many events fit in a buffer of so many words
+abbrev pub roomIn : ℕ → ℕ
+roomIn words = words / width
+
+-- ---- writing
+
+abbrev pub kindWord : ℕ → Bool → ℕ
+kindWord kind false = kind * 2
+kindWord kind true = kind * 2 + 1
+
+abbrev pub encode : List Event → List ℕ
+encode [] = []
+encode (e ∷ es) = kindWord (e .kind) (e .exit) ∷ e .offset ∷ encode es
+
+-- the words with these events from event k on; all else is as it was
+unfoldable pub written : List ℕ → ℕ → List Event → List ℕ
+written words k es = sets words (k * width) (encode es)
+
+-- the first word of a mark's event
+abbrev pub markWord : Mark → ℕ
+markWord mark = kindWord (eventAt 0 mark .kind) (eventAt 0 mark .exit)
+
+-- ---- reading
+
+-- event k of a buffer
+abbrev pub eventIn : List ℕ → ℕ → Event
+eventIn words k =
+    let first = getD words (k * width) 0 in
+    event (first / 2) (eqb (first % 2) 1) (getD words (k * width + 1) 0)
+
+-- n events of it, from event k on
+unfoldable pub eventsIn : List ℕ → ℕ → ℕ → List Event
+eventsIn words k zero = []
+eventsIn words k (suc n) = eventIn words k ∷ eventsIn words (k + 1) n

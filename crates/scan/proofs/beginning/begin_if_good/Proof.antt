@@ -1,0 +1,16 @@
+use borrow.Author.Needs.{needs}
+use Rattle.scan.proofs.beginning.begin_if_good.Statement.{statement}
+use Rattle.scan.proofs.beginning.begin_if_good.Tie as tie
+
+pub begin-if-good-spec : {M : Type 1} → statement M
+begin-if-good-spec =
+    tie.close
+    (tie.spec
+    (λ c. search needs)
+    (λ c. search needs)
+    (λ c. search needs)
+    (λ c. search needs)
+    (λ c. rw (c .enum-told .given .1))
+    (λ c. rw (c .enum-told2 .given .1))
+    (λ c. rw (c .enum-told3 .given .1))
+    (λ c. rw (c .before .checked .given .1)))

@@ -1,0 +1,21 @@
+use mathlib.Core.Path.{_≡_, sym, ap, _∙_}
+use mathlib.Core.Bool.{Bool, true, false, not, true≢false}
+use borrow.Author.Needs.{needs}
+use Rattle.scan.proofs.ShortWay.{stay, data-plain, lines, quoted, names}
+use Rattle.scan.proofs.stepping.glides.Statement.{statement}
+use Rattle.scan.proofs.stepping.glides.Tie as tie
+
+pub glides-spec : {M : Type 1} → statement M
+glides-spec =
+    tie.close
+    (tie.spec
+    (λ c κs. search needs)
+    (λ c κs. search needs)
+    (λ c κs. search needs)
+    (λ c κs. search needs)
+    (λ c κs. search needs)
+    (λ c page t s q y. let k = c .before .if1 .taken in data-plain page t _ (s ∙ k) (sym (c .plain-data .ensures) ∙ y) ∙ ap stay (sym k))
+    (λ c page t s q y. let k = c .before .if2 .taken in lines page t _ (s ∙ k) (ap not (sym (c .line-ends .ensures)) ∙ y) ∙ ap stay (sym k))
+    (λ c page t s q y. let k = c .before .if3 .taken in quoted page t _ (s ∙ k) (rw q (ap not (sym (c .quoted-ends .ensures)) ∙ y)) ∙ ap stay (sym k))
+    (λ c page t s q y. names _ (sym (c .id-cont .ensures) ∙ y) page t (rw s (sym (c .before .before .inside-a-name .ensures) ∙ c .before .if4 .taken)) ∙ ap stay s)
+    (λ c page t s q y. absurd (true≢false (sym y))))

@@ -1,0 +1,10 @@
+use Rattle.base.specs.If.{picks}
+use Rattle.scan.proofs.stepping.plain_data.Statement.{statement}
+use Rattle.scan.proofs.stepping.plain_data.Tie as tie
+
+pub plain-data-spec : {M : Type 1} → statement M
+plain-data-spec =
+    tie.close
+    (tie.spec
+    (λ c. search picks depth 12)
+    (λ c. search picks depth 12))

@@ -1,0 +1,145 @@
+-- Every state that a call gives is in range: docs/NUMBERS.md lists the ranges, and `scanInRange` is their test. A refused call gives back
+-- the state that it was handed.
+use Prim.Native.Nat.{ℕ, zero, suc, _+_, _-_, _≤_}
+use native.Mathlib.Omega.{arith}
+use mathlib.Core.Path.{_≡_, refl}
+use mathlib.Core.Bool.{true, false}
+use mathlib.Core.List.{List}
+use lib.ListN.{length, replicate, length-replicate}
+use lib.Dec.{leb, ltb, eqb}
+use borrow.Author.Tests.{leb-true, le-leb, ltb-true, ltb-false}
+use Rattle.base.specs.If.{if_then_else_, if-is, case, both, and-yes}
+use Rattle.base.specs.Page.{pageLimit, byteAt}
+use Rattle.base.specs.Range.{within}
+use Rattle.base.specs.State.{full, asking, rests}
+use Rattle.base.specs.Decide.{retry, countOf}
+use Rattle.base.specs.declared.Marks.the-variants.{Nothing}
+use Rattle.base.specs.declared.Move.{Move}
+use Rattle.base.specs.declared.Verdict.{Verdict}
+use Rattle.events.specs.Words.{roomIn}
+use Rattle.tokenizer.specs.declared.Job.{Job}
+use Rattle.tokenizer.specs.Moved.{oneMore, moved}
+use Rattle.tokenizer.specs.Ranges.{esm, constructListed, kindListed, jobInRange, runsIn, isAnswer, listed, isReturn, numbersInRange, placesInRange, regsInRange, verdictInRange, inRange}
+use Rattle.page.specs.Page.{pageOf, Admitted}
+use Rattle.scan.specs.declared.Scan.{Scan}
+use Rattle.scan.specs.Scan.{stepBound, choice, lacks, stepScan, runScan}
+use Rattle.scan.specs.Call.{scanInRange, runnable, runOf, givable, givenScan, giveOf, jobOf, allFlags, freshScan, numbersListed, Begun, started, notStarted, beginOf, Left, noScan, ranFrom, singleOf}
+use Rattle.scan.proofs.Begun.{begins}
+use Rattle.scan.proofs.Runs.{run-keeps}
+use Rattle.scan_theorems.specs.Statement.{RangesClosed}
+use Rattle.scan_theorems.proofs.Parts.{parts, whole}
+use Rattle.scan_theorems.proofs.Closed.{moved-in-range}
+use Rattle.scan_theorems.proofs.Scans.{within-fresh, within-range}
+
+-- what the test of a scan tells
+record Known (s : Scan) : Type 0 where
+  range : inRange (s .tokenizer) ≡ true
+  used : s .used ≤ roomIn (s .tokenizer .job .words)
+  steps : s .steps ≤ stepBound (s .tokenizer .job)
+
+known : (s : Scan) → scanInRange s ≡ true → Known s
+unfolding scanInRange
+known s e =
+    let a = both (inRange (s .tokenizer)) _ e in
+    let b = both (leb (s .used) (roomIn (s .tokenizer .job .words))) _ (a .1) in
+    record {
+      range = a .0;
+      used = leb-true (s .used) (roomIn (s .tokenizer .job .words)) (b .0);
+      steps = leb-true (s .steps) (stepBound (s .tokenizer .job)) (b .1);
+    }
+
+told : (s : Scan) → Known s → scanInRange s ≡ true
+unfolding scanInRange
+told s k =
+    and-yes _ _ (k .range) (and-yes _ _ (le-leb (s .used) (roomIn (s .tokenizer .job .words)) (k .used)) (le-leb (s .steps) (stepBound (s .tokenizer .job)) (k .steps)))
+
+-- ---- a step and a run
+
+one-more-within : (n limit : ℕ) → n ≤ limit → oneMore n limit ≤ limit
+one-more-within n limit h = if-is ℕ (λ (k : ℕ). k ≤ limit) (ltb n limit) (n + 1) n (λ e. omega (arith, ltb-true n limit e)) (λ e. h)
+
+module _ (page : List ℕ) (s : Scan) (k : Known s) (r : rests (s .tokenizer .state) ≡ false) where
+  abbrev Fine : Move → Type 0
+  Fine m = (inRange (moved (s .tokenizer) m) ≡ true) × (s .used + countOf (m .marks) ≤ roomIn (s .tokenizer .job .words))
+
+  decided : lacks s (choice page s) ≡ false → Fine (choice page s)
+  unfolding choice
+  decided e =
+      (moved-in-range page (s .tokenizer) (byteAt page (s .tokenizer .at)) (k .range) r, omega (arith, k .used, ltb-false (roomIn (s .tokenizer .job .words) - s .used) (countOf (choice page s .marks)) e))
+
+  cut-off : Fine (retry full Nothing)
+  unfolding moved if_then_else_ listed isAnswer within
+  cut-off =
+      let p = parts (s .tokenizer) (k .range) in
+      (whole (moved (s .tokenizer) (retry full Nothing)) (record { at = p .at; job = p .job; state = refl; regs = p .regs; heard = p .heard }), omega (arith, k .used))
+
+  step-known : Known (stepScan page s)
+  unfolding stepScan moved
+  step-known =
+      let f = if-is Move Fine (lacks s (choice page s)) (retry full Nothing) (choice page s) (λ e. cut-off) decided in
+      record { range = f .0; used = f .1; steps = one-more-within (s .steps) (stepBound (s .tokenizer .job)) (k .steps) }
+
+run-known : (page : List ℕ) (n : ℕ) (s : Scan) → Known s → Known (runScan page n s)
+run-known page = run-keeps page Known (λ s r k. step-known page s k r)
+
+-- a run gives a state in range, or, refused, the one that it was handed
+pub run-gives-in-range : (page : List ℕ) (allowance : ℕ) (s : Scan) (words : List ℕ) → scanInRange s ≡ true → scanInRange (runOf page allowance s words .scan) ≡ true
+unfolding runOf if_then_else_
+run-gives-in-range page allowance s words h =
+    case _ (runnable s (length page) (length words) allowance) (λ e. rw e (told (runScan page allowance s) (run-known page allowance s (known s h)))) (λ e. rw e h)
+
+-- ---- a verdict
+
+verdict-listed : (construct : ℕ) → listed construct (if eqb construct esm then 76 else 37) ≡ true
+unfolding listed isAnswer runsIn within if_then_else_
+verdict-listed construct = case _ (eqb construct esm) (λ c. rw c) (λ c. rw c)
+
+pub give-gives-in-range : (s : Scan) (v : Verdict) → scanInRange s ≡ true → scanInRange (giveOf s v .scan) ≡ true
+unfolding giveOf givable givenScan if_then_else_
+give-gives-in-range s v h =
+    case _ (givable s v)
+    (λ e.
+    let a = both (eqb (s .tokenizer .state) asking) _ e in
+    let b = both (verdictInRange v) _ (a .1) in
+    let k = known s h in
+    let p = parts (s .tokenizer) (k .range) in
+    rw e (told (givenScan s v) (record {
+      range = whole (givenScan s v .tokenizer) (record { at = p .at; job = p .job; state = verdict-listed (s .tokenizer .job .construct); regs = p .regs; heard = b .0 });
+      used = k .used;
+      steps = k .steps;
+    })))
+    (λ e. rw e h)
+
+-- ---- a new scan
+
+-- the numbers of the job were listed, the rest admitted
+pub job-in-range : (bytes : List ℕ) (at n start construct kind flags words : ℕ) → numbersListed construct kind flags ≡ true → Admitted bytes at n start → jobInRange (jobOf construct kind flags n start words) ≡ true
+unfolding jobInRange
+job-in-range bytes at n start construct kind flags words l a =
+    and-yes _ _ (le-leb n pageLimit (a .short)) (and-yes _ _ (le-leb start n (a .starts)) (both (leb flags allFlags) _ l .1))
+
+fresh-in-range : (j : Job) → jobInRange j ≡ true → scanInRange (freshScan j) ≡ true
+fresh-in-range j h = within-range (replicate (j .length) 0) (freshScan j) (within-fresh (replicate (j .length) 0) j h (length-replicate (j .length) 0))
+
+pub new-gives-in-range : (bytes : List ℕ) (at n start construct kind flags words : ℕ) (s : Scan) → beginOf bytes at n start construct kind flags words ≡ started s → scanInRange s ≡ true
+new-gives-in-range bytes at n start construct kind flags words s e =
+    let b = begins bytes at n start construct kind flags words s e in
+    rw (b .fresh) (fresh-in-range _ (job-in-range bytes at n start construct kind flags words (b .listed) (b .admitted)))
+
+-- ---- a single scan in one call
+
+none-in-range : scanInRange noScan ≡ true
+unfolding scanInRange inRange jobInRange constructListed kindListed listed isAnswer runsIn isReturn numbersInRange placesInRange regsInRange verdictInRange within if_then_else_
+none-in-range = refl
+
+single-gives-in-range : (bytes : List ℕ) (at n start construct kind flags allowance : ℕ) (words : List ℕ) → scanInRange (singleOf bytes at n start construct kind flags allowance words .scan) ≡ true
+unfolding singleOf
+single-gives-in-range bytes at n start construct kind flags allowance words =
+    if-is Left (λ (x : Left). scanInRange (x .scan) ≡ true) (ltb 0 allowance) _ _ (λ e. ran (beginOf bytes at n start construct kind flags (length words)) refl) (λ e. none-in-range)
+  where
+    ran : (b : Begun) → beginOf bytes at n start construct kind flags (length words) ≡ b → scanInRange (ranFrom b (pageOf bytes at n) allowance words .scan) ≡ true
+    ran (started s) e = run-gives-in-range (pageOf bytes at n) allowance s words (new-gives-in-range bytes at n start construct kind flags (length words) s e)
+    ran (notStarted a) e = none-in-range
+
+pub ranges-are-closed : RangesClosed
+ranges-are-closed = record { new = new-gives-in-range; run = run-gives-in-range; give = give-gives-in-range; single = single-gives-in-range }

@@ -1,0 +1,125 @@
+-- A property that holds of every row of the tables of states holds of what a tokenizer in range decides: one walk, with the property as
+-- its argument. The rows are all there, so nothing is asked of the decision that no state makes.
+use Prim.Native.Nat.{ℕ, zero, suc, _+_, _≤_, _<_}
+use native.Mathlib.Omega.{arith}
+use native.Mathlib.Decide.{ℕ-discrete, decLe}
+use mathlib.Core.Path.{_≡_, refl, sym, ap, _∙_}
+use mathlib.Core.Logic.{by-cases}
+use mathlib.Core.Bool.{Bool, true, false, _&&_, _||_}
+use mathlib.Core.List.{List, [], _∷_}
+use lib.Dec.{eqb}
+use borrow.Author.Tests.{eqb-true}
+use Rattle.base.specs.If.{if-is, both, among}
+use Rattle.base.specs.Range.{within, within-is, is-within, above}
+use Rattle.base.specs.Table.{find}
+use Rattle.base.specs.State as state
+use Rattle.base.specs.Decide.{retry}
+use Rattle.base.specs.declared.Marks.the-variants.{Nothing}
+use Rattle.base.specs.declared.Move.{Move}
+use Rattle.tokenizer.specs.Decision.{notAscii, takesAscii, refusesNotAscii, expressionStates, tagStates, attributeStates, esmStates, noState, ofExpression, ofTag, esmDecision, attributeDecision, tagDecision, expressionDecision, stateDecision, decision}
+use Rattle.tokenizer.specs.declared.Tokenizer.{Tokenizer}
+use Rattle.scan_theorems.proofs.Tests.{clash}
+
+-- one row's proof, and those of the rows below it
+infixr 5 _&_
+abbrev pub _&_ : {A B : Type 0} → A → B → A × B
+a & b = (a, b)
+
+-- ---- one table
+
+module _ {A : Type 0} where
+  abbrev keys : List (ℕ × A) → List ℕ
+  keys [] = []
+  keys (e ∷ es) = e .0 ∷ keys es
+
+  -- the property of each row whose key is n
+  abbrev pub Each : (A → Type 0) → ℕ → List (ℕ × A) → Type 0
+  Each P n [] = Unit {0}
+  Each P n (e ∷ es) = (n ≡ e .0 → P (e .1)) × Each P n es
+
+  -- it holds of what is found, if it holds of what is given where no row has the number
+  pub found-or : (P : A → Type 0) (n : ℕ) (es : List (ℕ × A)) (d : A) → Each P n es → (among (keys es) n ≡ false → P d) → P (find n es d)
+  unfolding find among
+  found-or P n [] d h p = p refl
+  found-or P n (e ∷ es) d h p =
+      if-is A P (eqb n (e .0)) (e .1) (find n es d) (λ t. h .0 (eqb-true n (e .0) t)) (λ t. found-or P n es d (h .1) (λ a. p (rw t a)))
+
+  pub found : (P : A → Type 0) (n : ℕ) (es : List (ℕ × A)) (d : A) → Each P n es → P d → P (find n es d)
+  found P n es d h p = found-or P n es d h (λ f. p)
+
+  -- where the number is a row's, nothing is asked of the rest
+  pub found-key : (P : A → Type 0) (n : ℕ) (es : List (ℕ × A)) (d : A) → among (keys es) n ≡ true → Each P n es → P (find n es d)
+  found-key P n es d k h = found-or P n es d h (λ f. clash (among (keys es) n) k f)
+
+-- ---- a test that holds of every number of a range, computed
+
+abbrev pub all : (ℕ → Bool) → ℕ → ℕ → Bool
+all f low zero = true
+all f low (suc n) = f low && all f (low + 1) n
+
+pub all-hold : (f : ℕ → Bool) (n low x : ℕ) → all f low n ≡ true → low ≤ x → x < low + n → f x ≡ true
+all-hold f zero low x a h g = absurd (omega arith)
+all-hold f (suc n) low x a h g =
+    let b = both (f low) (all f (low + 1) n) a in
+    by-cases (ℕ-discrete x low) (λ (e : x ≡ low). ap f e ∙ b .0) (λ ne. all-hold f n (low + 1) x (b .1) (omega (arith, ne)) (omega arith))
+
+-- ---- the states of an expression or a tag, and those of an ESM block
+
+abbrev pub ofTags : ℕ → Bool
+ofTags name = within state.mdxExpressionStart state.mdxJsxEsWhitespaceInsideRetried name
+
+abbrev pub ofEsm : ℕ → Bool
+ofEsm name = within state.mdxEsmStart state.mdxEsmVerdict name
+
+module _ (P : Move → Type 0) (page : List ℕ) (t : Tokenizer) (b : ℕ) where
+  abbrev n : ℕ
+  n = t .state
+
+  in-expression : ofExpression n ≡ true → Each P n (expressionStates page t b) → P (expressionDecision page t b)
+  unfolding expressionDecision among
+  in-expression h rows =
+      let w = within-is state.mdxExpressionStart state.mdxExpressionVerdict n h in
+      found-key P n (expressionStates page t b) noState (all-hold (among (keys (expressionStates page t b))) 6 32 n refl (w .0) (omega arith)) rows
+
+  in-tag : ofTag n ≡ true → Each P n (tagStates t b) → Each P n (attributeStates t b) → P (tagDecision t b)
+  unfolding tagDecision attributeDecision among
+  in-tag h rows more =
+      let w = within-is state.mdxJsxStart state.mdxJsxEsWhitespaceInsideRetried n h in
+      let either = all-hold (λ (x : ℕ). among (keys (tagStates t b)) x || among (keys (attributeStates t b)) x) 30 38 n refl (w .0) (omega arith) in
+      found-or P n (tagStates t b) (find n (attributeStates t b) noState) rows (λ f. found-key P n (attributeStates t b) noState (rw f at either) more)
+
+  in-esm : ofEsm n ≡ true → Each P n (esmStates page t b) → P (esmDecision page t b)
+  unfolding esmDecision among
+  in-esm h rows =
+      let w = within-is state.mdxEsmStart state.mdxEsmVerdict n h in
+      found-key P n (esmStates page t b) noState (all-hold (among (keys (esmStates page t b))) 9 68 n refl (w .0) (omega arith)) rows
+
+  -- in an expression or a tag: what the state decides, behind the test for bytes that are not ASCII
+  pub tag-state-decides : ofTags n ≡ true → Each P n (expressionStates page t b) → Each P n (tagStates t b) → Each P n (attributeStates t b) → P (stateDecision page t b)
+  unfolding stateDecision
+  tag-state-decides h e g a =
+      let w = within-is state.mdxExpressionStart state.mdxJsxEsWhitespaceInsideRetried n h in
+      if-is Move P (ofExpression n) _ _ (λ x. in-expression x e) (λ x. if-is Move P (ofTag n) _ _ (λ y. in-tag y g a) (λ y. absurd (outside n x y (w .0) (w .1))))
+    where
+      outside : (k : ℕ) → ofExpression k ≡ false → ofTag k ≡ false → 32 ≤ k → k ≤ 67 → ⊥
+      outside k x y l m = by-cases (decLe k 37) (λ (s : k ≤ 37). clash (ofExpression k) (is-within 32 37 k l s) x) (λ s. clash (ofTag k) (is-within 38 67 k (omega (arith, s)) m) y)
+
+  pub of-every-tag-state : ofTags n ≡ true → P (retry state.notAscii Nothing) → Each P n (expressionStates page t b) → Each P n (tagStates t b) → Each P n (attributeStates t b) → P (decision page t b)
+  unfolding decision
+  of-every-tag-state h p e g a = if-is Move P (refusesNotAscii n b) _ _ (λ r. p) (λ r. tag-state-decides h e g a)
+
+  -- in an ESM block: no state of it refuses a byte before it runs
+  pub esm-state-decides : ofEsm n ≡ true → Each P n (esmStates page t b) → P (stateDecision page t b)
+  unfolding stateDecision
+  esm-state-decides h rows =
+      let w = within-is state.mdxEsmStart state.mdxEsmVerdict n h in
+      if-is Move P (ofExpression n) _ _ (λ x. clash (ofExpression n) x (above 32 37 n (omega arith)))
+      (λ x. if-is Move P (ofTag n) _ _ (λ y. clash (ofTag n) y (above 38 67 n (omega arith))) (λ y. in-esm h rows))
+
+  pub of-every-esm-state : ofEsm n ≡ true → Each P n (esmStates page t b) → P (decision page t b)
+  unfolding decision
+  of-every-esm-state h rows =
+      let w = within-is state.mdxEsmStart state.mdxEsmVerdict n h in
+      if-is Move P (refusesNotAscii n b) _ _
+      (λ r. clash (takesAscii n) (both (notAscii b) (takesAscii n) r .1) (above state.mdxJsxNameBefore state.mdxJsxEsWhitespaceInsideRetried n (omega arith)))
+      (λ r. esm-state-decides h rows)

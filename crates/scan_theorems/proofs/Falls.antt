@@ -1,0 +1,79 @@
+-- Each step of a sound tokenizer that does not rest leaves less to do, and leaves it sound.
+use Prim.Native.Nat.{ℕ, _+_, _≤_}
+use mathlib.Core.Path.{_≡_}
+use mathlib.Core.Bool.{true, false}
+use mathlib.Core.List.{List}
+use native.Mathlib.Omega.{arith}
+use lib.Dec.{leb, eqb}
+use borrow.Author.Tests.{ltb-false, eqb-true, lt-leb}
+use Rattle.base.specs.If.{case, or-cases}
+use Rattle.base.specs.Range.{within, within-is}
+use Rattle.base.specs.Page.{byteAt}
+use Rattle.base.specs.State.{done, nok, notAscii, full, badCall, asking, rests, mdxExpressionStart, mdxJsxEsWhitespaceInsideRetried}
+use Rattle.base.specs.declared.Move.{Move}
+use Rattle.tokenizer.specs.Decision.{decision}
+use Rattle.tokenizer.specs.Moved.{moved}
+use Rattle.tokenizer.specs.Ranges.{esm}
+use Rattle.tokenizer.specs.declared.Tokenizer.{Tokenizer}
+use Rattle.scan_theorems.proofs.Parts.{parts, low, high}
+use Rattle.scan_theorems.proofs.DecisionSinks.{decision-sinks}
+use Rattle.scan_theorems.proofs.Left.{left, left-esm}
+use Rattle.scan_theorems.proofs.Tame.{Tame, tame, answers, stands}
+use Rattle.scan_theorems.proofs.DecisionTame.{low-tame}
+use Rattle.scan_theorems.proofs.TagFalls.{judged}
+use Rattle.scan_theorems.proofs.Closed.{moved-in-range}
+use Rattle.scan_theorems.proofs.Ahead.{Ahead, elsewhere, low-elsewhere}
+use Rattle.scan_theorems.proofs.EsmDecision.{decision-falls}
+use Rattle.scan_theorems.proofs.Sound.{Sound}
+
+-- no state of an expression or a tag looks ahead
+stands-low : (name : ℕ) → stands false name ≡ true → name ≤ mdxJsxEsWhitespaceInsideRetried
+stands-low name h =
+    or-cases _ (answers name) _ h
+    (λ a. or-cases _ (within done nok name) _ a (λ e. omega (arith, within-is done nok name e .1)) (λ e. omega (arith, within-is notAscii full name e .1)))
+    (λ d. or-cases _ (eqb name asking) _ d (λ e. omega (arith, eqb-true name asking e)) (λ e. within-is mdxExpressionStart mdxJsxEsWhitespaceInsideRetried name e .1))
+
+tame-elsewhere : (page : List ℕ) (t : Tokenizer) (m : Move) → Tame false m → Ahead page (moved t m .state) (moved t m .at) (moved t m .regs .saved)
+unfolding moved
+tame-elsewhere page t m (tame h g) = elsewhere (low-elsewhere (m .next) (omega (arith, stands-low (m .next) h)))
+
+module _ (page : List ℕ) (t : Tokenizer) (s : Sound page t) (r : rests (t .state) ≡ false) where
+  abbrev after : Tokenizer
+  after = moved t (decision page t (byteAt page (t .at)))
+
+  -- a step leaves less to do and keeps what a look-ahead needs
+  abbrev Good : Type 0
+  Good = (left page after + 1 ≤ left page t) × Ahead page (after .state) (after .at) (after .regs .saved)
+
+  runs : leb (t .state) badCall ≡ false
+  runs = lt-leb (t .state) badCall (omega (arith, ltb-false (t .state) 32 r))
+
+  tag-good : eqb (t .job .construct) esm ≡ false → Good
+  tag-good c =
+      let p = parts t (s .range) in
+      let b = byteAt page (t .at) in
+      let l = low (t .job .construct) (t .state) c (p .state) r in
+      (judged page t (s .size) c runs (decision page t b) (decision-sinks page t b (p .regs .back) l), tame-elsewhere page t (decision page t b) (low-tame page t b (p .regs .back) (p .heard) l))
+
+  esm-good : eqb (t .job .construct) esm ≡ true → Good
+  unfolding left moved
+  esm-good c =
+      let p = parts t (s .range) in
+      let h = high (t .job .construct) (t .state) c (p .state) r in
+      let q = decision-falls page t c (s .size) (omega (arith, p .at, s .size)) (s .ahead) h in
+      (omega (arith, q .less, left-esm page (t .job .construct) (t .state) (t .at) (t .regs) c runs), q .kept)
+
+  good : Good
+  good = case Good (eqb (t .job .construct) esm) esm-good tag-good
+
+pub falls : (page : List ℕ) (t : Tokenizer) → Sound page t → rests (t .state) ≡ false → left page (moved t (decision page t (byteAt page (t .at)))) + 1 ≤ left page t
+falls page t s r = good page t s r .0
+
+pub sound-moved : (page : List ℕ) (t : Tokenizer) → Sound page t → rests (t .state) ≡ false → Sound page (moved t (decision page t (byteAt page (t .at))))
+unfolding moved
+sound-moved page t s r =
+    record {
+      range = moved-in-range page t (byteAt page (t .at)) (s .range) r;
+      size = s .size;
+      ahead = good page t s r .1;
+    }

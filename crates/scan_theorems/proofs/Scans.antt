@@ -1,0 +1,183 @@
+-- Every step of a scan is counted, and a scan of n bytes makes at most 8(n+1) of them. And the two inductions that every promise on scans
+-- uses: what each step keeps, a run keeps; what runs and verdicts keep, a whole scan keeps.
+use Prim.Native.Nat.{ℕ, zero, suc, _+_, _-_, _*_, _≤_}
+use native.Mathlib.Omega.{arith}
+use mathlib.Core.Path.{_≡_, refl, sym, ap, _∙_}
+use mathlib.Core.Bool.{true, false}
+use mathlib.Core.List.{List, [], _∷_}
+use lib.ListN.{length}
+use lib.Dec.{eqb}
+use borrow.Author.Tests.{le-leb, ltb-false, lt-ltb, eqb-true}
+use Rattle.base.specs.If.{if_then_else_, if-is, if-yes, case, and-yes}
+use Rattle.base.specs.Range.{within}
+use Rattle.base.specs.State.{full, asking, rests}
+use Rattle.base.specs.Decide.{retry, countOf}
+use Rattle.base.specs.declared.Marks.the-variants.{Nothing}
+use Rattle.base.specs.declared.Move.{Move}
+use Rattle.base.specs.declared.Verdict.{Verdict}
+use Rattle.events.specs.Words.{roomIn}
+use Rattle.tokenizer.specs.declared.Job.{Job}
+use Rattle.tokenizer.specs.declared.Tokenizer.{Tokenizer}
+use Rattle.tokenizer.specs.Moved.{moved}
+use Rattle.tokenizer.specs.Ranges.{jobInRange, isAnswer, verdictInRange}
+use Rattle.scan.specs.declared.Scan.{Scan}
+use Rattle.scan.specs.Scan.{stepBound, choice, lacks, carriedOut, stepScan, runScan}
+use Rattle.scan.specs.Call.{scanInRange, givenScan, freshScan}
+use Rattle.scan.specs.Alone.{toldScan, runAlone}
+use Rattle.scan.proofs.Runs.{run-keeps}
+use Rattle.scan.proofs.Kept.{step-job, run-job}
+use Rattle.scan_theorems.specs.Statement.{Heard, made, madeAlone, FewSteps}
+use Rattle.scan_theorems.proofs.Left.{left, left-ended}
+use Rattle.scan_theorems.proofs.Sound.{Sound}
+use Rattle.scan_theorems.proofs.Falls.{falls, sound-moved}
+use Rattle.scan_theorems.proofs.Ended.{sound-ended}
+use Rattle.scan_theorems.proofs.Given.{left-given, sound-given}
+use Rattle.scan_theorems.proofs.Fresh.{left-fresh, sound-fresh}
+
+-- a scan over its page: in range, and with steps enough for what is left to do
+pub record Within (page : List ℕ) (s : Scan) : Type 0 where
+  pub sound : Sound page (s .tokenizer)
+  pub room : s .used ≤ roomIn (s .tokenizer .job .words)
+  pub paid : s .steps + left page (s .tokenizer) ≤ stepBound (s .tokenizer .job)
+
+-- it is in range, as the calls test it
+pub within-range : (page : List ℕ) (s : Scan) → Within page s → scanInRange s ≡ true
+unfolding scanInRange
+within-range page s w =
+    and-yes _ _ (w .sound .range)
+    (and-yes _ _ (le-leb (s .used) (roomIn (s .tokenizer .job .words)) (w .room)) (le-leb (s .steps) (stepBound (s .tokenizer .job)) (omega (arith, w .paid))))
+
+-- ---- one step
+
+module _ (page : List ℕ) (s : Scan) (w : Within page s) (r : rests (s .tokenizer .state) ≡ false) where
+  abbrev t : Tokenizer
+  t = s .tokenizer
+
+  -- what a step leaves of the tokenizer
+  abbrev Fine : Move → Type 0
+  Fine m = Sound page (moved t m) × (left page (moved t m) + 1 ≤ left page t) × (s .used + countOf (m .marks) ≤ roomIn (t .job .words))
+
+  decided : lacks s (choice page s) ≡ false → Fine (choice page s)
+  unfolding choice
+  decided e =
+      (sound-moved page t (w .sound) r, falls page t (w .sound) r, omega (arith, w .room, ltb-false (roomIn (t .job .words) - s .used) (countOf (choice page s .marks)) e))
+
+  -- no room: the scan ends where it is
+  cut-off : Fine (retry full Nothing)
+  unfolding moved isAnswer within if_then_else_
+  cut-off =
+      let f = falls page t (w .sound) r in
+      (sound-ended page t full (w .sound) refl (omega arith), omega (arith, f, left-ended page (moved t (retry full Nothing)) (omega arith)), omega (arith, w .room))
+
+  fine : Fine (carriedOut s (choice page s))
+  fine = if-is Move Fine (lacks s (choice page s)) (retry full Nothing) (choice page s) (λ e. cut-off) decided
+
+  -- there is something left to do, so the step is counted
+  pub step-counted : stepScan page s .steps ≡ s .steps + 1
+  unfolding stepScan
+  step-counted =
+      let f = fine .1 in
+      sym (if-yes _ _ _ _ _ (lt-ltb (s .steps) (stepBound (s .tokenizer .job)) (omega (arith, f, w .paid))) refl)
+
+  pub within-step : Within page (stepScan page s)
+  unfolding stepScan moved
+  within-step =
+      record {
+        sound = fine .0;
+        room = fine .2;
+        paid = omega (arith, fine .1, w .paid, step-counted);
+      }
+
+-- ---- a run
+
+pub within-run : (page : List ℕ) (k : ℕ) (s : Scan) → Within page s → Within page (runScan page k s)
+within-run page = run-keeps page (Within page) (λ s r w. within-step page s w r)
+
+-- each is counted
+pub run-counted : (page : List ℕ) (k : ℕ) (s : Scan) → Within page s → runScan page k s .steps ≡ s .steps + made page k s
+unfolding runScan made if_then_else_
+run-counted page zero s w = omega arith
+run-counted page (suc k) s w =
+    case _ (rests (s .tokenizer .state)) (λ e. rw e (omega arith))
+    (λ e. rw e (omega (arith, run-counted page k (stepScan page s) (within-step page s w e), step-counted page s w e)))
+
+-- a run with steps enough for what is left comes to rest
+pub run-ends : (page : List ℕ) (k : ℕ) (s : Scan) → Within page s → left page (s .tokenizer) ≤ k → rests (runScan page k s .tokenizer .state) ≡ true
+unfolding runScan stepScan if_then_else_
+run-ends page zero s w h =
+    case _ (rests (s .tokenizer .state)) (λ e. e) (λ e. absurd (omega (arith, fine page s w e .1)))
+run-ends page (suc k) s w h =
+    case _ (rests (s .tokenizer .state)) (λ e. rw e e)
+    (λ e. rw e (run-ends page k (stepScan page s) (within-step page s w e) (omega (arith, fine page s w e .1))))
+
+-- ---- verdicts
+
+pub within-given : (page : List ℕ) (s : Scan) (v : Verdict) → Within page s → s .tokenizer .state ≡ asking → verdictInRange v ≡ true → Within page (givenScan s v)
+unfolding givenScan
+within-given page s v w e h =
+    record {
+      sound = sound-given page (s .tokenizer) v (w .sound) h;
+      room = w .room;
+      paid = omega (arith, w .paid, left-given page (s .tokenizer) v e);
+    }
+
+-- ---- a new scan
+
+pub within-fresh : (page : List ℕ) (j : Job) → jobInRange j ≡ true → length page ≡ j .length → Within page (freshScan j)
+unfolding freshScan
+within-fresh page j h l =
+    record {
+      sound = sound-fresh page j h l;
+      room = omega arith;
+      paid = omega (arith, left-fresh page j l);
+    }
+
+-- ---- a whole scan, with the verdicts that it is given
+
+-- what every step keeps, and every verdict that can be heard, the scan keeps
+pub alone-keeps : (page : List ℕ) (k : ℕ) (P : Scan → Type 0) → ((s : Scan) → rests (s .tokenizer .state) ≡ false → P s → P (stepScan page s))
+    → ((s : Scan) (v : Verdict) → verdictInRange v ≡ true → P s → P (toldScan s v)) → (vs : List Verdict) (s : Scan) → Heard vs → P s → P (runAlone page k vs s)
+unfolding runAlone
+alone-keeps page k P f g [] s h p = run-keeps page P f k s p
+alone-keeps page k P f g (v ∷ vs) s h p = alone-keeps page k P f g vs (toldScan (runScan page k s) v) (h .1) (g (runScan page k s) v (h .0) (run-keeps page P f k s p))
+
+-- what a verdict that is given keeps, a verdict keeps that is told to a scan, asking or not
+pub told-keeps : (P : Scan → Type 0) (s : Scan) (v : Verdict) → (s .tokenizer .state ≡ asking → P (givenScan s v)) → P s → P (toldScan s v)
+told-keeps P s v f p = if-is Scan P (eqb (s .tokenizer .state) asking) (givenScan s v) s (λ e. f (eqb-true (s .tokenizer .state) asking e)) (λ e. p)
+
+pub within-told : (page : List ℕ) (s : Scan) (v : Verdict) → Within page s → verdictInRange v ≡ true → Within page (toldScan s v)
+within-told page s v w h = told-keeps (Within page) s v (λ e. within-given page s v w e h) w
+
+told-steps : (s : Scan) (v : Verdict) → toldScan s v .steps ≡ s .steps
+unfolding givenScan
+told-steps s v = told-keeps (λ (r : Scan). r .steps ≡ s .steps) s v (λ e. refl) refl
+
+pub within-alone : (page : List ℕ) (k : ℕ) (vs : List Verdict) (s : Scan) → Heard vs → Within page s → Within page (runAlone page k vs s)
+within-alone page k = alone-keeps page k (Within page) (λ s r w. within-step page s w r) (λ s v h w. within-told page s v w h)
+
+pub alone-counted : (page : List ℕ) (k : ℕ) (vs : List Verdict) (s : Scan) → Heard vs → Within page s → runAlone page k vs s .steps ≡ s .steps + madeAlone page k vs s
+unfolding runAlone madeAlone
+alone-counted page k [] s h w = run-counted page k s w
+alone-counted page k (v ∷ vs) s h w =
+    let r = runScan page k s in
+    let x = within-told page r v (within-run page k s w) (h .0) in
+    omega (arith, alone-counted page k vs (toldScan r v) (h .1) x, told-steps r v, run-counted page k s w)
+
+pub job-kept : (page : List ℕ) (k : ℕ) (s : Scan) → runScan page k s .tokenizer .job ≡ s .tokenizer .job
+job-kept = run-job
+
+pub told-job : (s : Scan) (v : Verdict) → toldScan s v .tokenizer .job ≡ s .tokenizer .job
+unfolding givenScan
+told-job s v = told-keeps (λ (r : Scan). r .tokenizer .job ≡ s .tokenizer .job) s v (λ e. refl) refl
+
+pub alone-job : (page : List ℕ) (k : ℕ) (vs : List Verdict) (s : Scan) → Heard vs → runAlone page k vs s .tokenizer .job ≡ s .tokenizer .job
+alone-job page k vs s h = alone-keeps page k (λ (x : Scan). x .tokenizer .job ≡ s .tokenizer .job) (λ x r e. step-job page x ∙ e) (λ x v g e. told-job x v ∙ e) vs s h refl
+
+pub at-most-eight-a-byte : FewSteps
+unfolding freshScan
+at-most-eight-a-byte page j k vs h l vr =
+    let w = within-fresh page j h l in
+    let c = alone-counted page k vs (freshScan j) vr w in
+    let a = within-alone page k vs (freshScan j) vr w in
+    let b : stepBound (runAlone page k vs (freshScan j) .tokenizer .job) ≡ stepBound j = ap stepBound (alone-job page k vs (freshScan j) vr) in
+    (omega (arith, c), omega (arith, c, a .paid, b))

@@ -1,0 +1,18 @@
+use mathlib.Core.Path.{sym}
+use Rattle.base.specs.If.{picks}
+use Rattle.tokenizer.specs.Ranges.{numbersInRange}
+use Rattle.tokenizer.proofs.Regs.numbers_in_range.Statement.{statement}
+use Rattle.tokenizer.proofs.Regs.numbers_in_range.Tie as tie
+
+pub numbers-in-range-spec : {M : Type 1} → statement M
+unfolding numbersInRange
+numbers-in-range-spec =
+    tie.close
+    (tie.spec
+    (λ c. sym (search picks depth 12))
+    (λ c. sym (search picks depth 12))
+    (λ c. sym (search picks depth 12))
+    (λ c. sym (search picks depth 12))
+    (λ c. sym (search picks depth 12))
+    (λ c. sym (search picks depth 12))
+    (λ c. sym (search picks depth 12)))

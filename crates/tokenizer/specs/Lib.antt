@@ -1,0 +1,4 @@
+pub mod Decision
+pub mod Moved
+pub mod Ranges
+pub mod Registers

@@ -1,0 +1,10 @@
+pub mod Demand3
+pub mod Example
+pub mod Fair
+pub mod Isolated
+pub mod Ranged
+pub mod Refused
+pub mod Ring
+pub mod Single
+pub mod Turns
+pub mod Views

@@ -1,0 +1,4 @@
+pub mod Calls
+pub mod Demand3
+pub mod Isolation
+pub mod Ranges
