@@ -6,7 +6,8 @@ use mathlib.Core.List.{List}
 use lib.ListN.{length, getD}
 use lib.Dec.{ltb, eqb}
 use borrow.Author.Tests.{ltb-true, ltb-false, lt-ltb, le-ltb, eqb-false}
-use Rattle.base.specs.If.{if_then_else_, case}
+use Rattle.base.specs.If.{if_then_else_}
+use Rattle.base.proofs.Choice.{case}
 use Rattle.base.specs.Byte.{endOfPage}
 use Rattle.base.specs.Page.{byteAt}
 

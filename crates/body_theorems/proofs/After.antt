@@ -2,7 +2,8 @@
 use Prim.Native.Nat.{ℕ}
 use mathlib.Core.Path.{_≡_}
 use mathlib.Core.Bool.{Bool, true, false}
-use Rattle.base.specs.If.{if_then_else_, if-is}
+use Rattle.base.specs.If.{if_then_else_}
+use Rattle.base.proofs.Choice.{if-is}
 use Rattle.base.specs.Decide.{listOf}
 use Rattle.base.specs.declared.Move.{Move}
 use Rattle.events.specs.Event.{eventsAt}

@@ -8,7 +8,8 @@ use mathlib.Core.List.{List, [], _∷_}
 use lib.Dec.{eqb}
 use lib.ListN.{length, getD, List·getD-map}
 use borrow.Author.Tests.{eq-eqb, le-ltb, lt-ltb, ltb-false, le-leb}
-use Rattle.base.specs.If.{if_then_else_, if-no, case, and-yes, and-no′}
+use Rattle.base.specs.If.{if_then_else_}
+use Rattle.base.proofs.Choice.{if-no, case, and-yes, and-no′}
 use Rattle.base.specs.Range.{within}
 use Rattle.base.specs.Page.{byteAt}
 use Rattle.base.specs.State as state

@@ -8,7 +8,8 @@ use mathlib.Core.List.{List, [], _∷_, _++_}
 use lib.Dec.{leb, eqb}
 use lib.ListN.{length}
 use borrow.Author.Tests.{lt-ltb}
-use Rattle.base.specs.If.{if_then_else_, both, among}
+use Rattle.base.specs.If.{if_then_else_, among}
+use Rattle.base.proofs.Choice.{both}
 use Rattle.base.specs.Page.{byteAt, afterLineFeed}
 use Rattle.base.specs.Byte.{lineFeed, space, endOfPage}
 use Rattle.base.specs.Kind.{esm, esmData}

@@ -7,7 +7,8 @@ use mathlib.Core.List.{List, [], _++_, append-nil, append-assoc}
 use lib.Dec.{ltb, eqb}
 use lib.ListN.{length}
 use borrow.Author.Tests.{eqb-true, lt-ltb, le-ltb, ltb-true, ltb-false, eq-eqb}
-use Rattle.base.specs.If.{if_then_else_, case, both, among, or-left, or-right, and-no, and-no′, and-yes}
+use Rattle.base.specs.If.{if_then_else_, among}
+use Rattle.base.proofs.Choice.{case, both, or-left, or-right, and-no, and-no′, and-yes}
 use Rattle.base.specs.Page.{byteAt}
 use Rattle.base.specs.Byte.{lineFeed, leftBrace, rightBrace, endOfPage}
 use Rattle.base.specs.State as state

@@ -7,8 +7,10 @@ use mathlib.Core.Bool.{Bool, true, false, not, _&&_}
 use mathlib.Core.List.{List, [], _∷_, _++_}
 use lib.Dec.{leb, eqb}
 use borrow.Author.Tests.{eqb-true, eqb-false, ne-eqb, leb-true}
-use Rattle.base.specs.If.{if_then_else_, if-is, case}
-use Rattle.base.specs.Range.{within, above}
+use Rattle.base.specs.If.{if_then_else_}
+use Rattle.base.proofs.Choice.{if-is, case}
+use Rattle.base.specs.Range.{within}
+use Rattle.base.proofs.Ranges.{above}
 use Rattle.base.specs.Page.{byteAt}
 use Rattle.base.specs.Byte.{rightBrace}
 use Rattle.base.specs.State as state

@@ -8,7 +8,8 @@ use lib.Dec.{eqb}
 use lib.ListN.{length, drop, length-drop}
 use lib.Seq.{length-take-le}
 use borrow.Author.Tests.{eqb-true, eqb-false}
-use Rattle.base.specs.If.{if_then_else_, case, both, or-cases}
+use Rattle.base.specs.If.{if_then_else_}
+use Rattle.base.proofs.Choice.{case, both, or-cases}
 use Rattle.base.specs.State as state
 use Rattle.base.specs.Table.{find}
 use Rattle.base.specs.declared.Verdict.{Verdict}

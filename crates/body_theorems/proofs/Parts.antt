@@ -9,7 +9,8 @@ use lib.Dec.{leb}
 use lib.ListN.{length, getD, length-map}
 use lib.Seq.{sets, sets-eq, drop-cons, take-append-seam, length-sets}
 use borrow.Author.Tests.{le-leb, leb-true}
-use Rattle.base.specs.If.{if_then_else_, if-yes, if-no, if-is, both}
+use Rattle.base.specs.If.{if_then_else_}
+use Rattle.base.proofs.Choice.{if-yes, if-no, if-is, both}
 use Rattle.base.specs.Page.{byteAt}
 use Rattle.base.specs.Number as number
 use Rattle.body_places.specs.Body.{allFrom, expressionPlaces, bytesAt}

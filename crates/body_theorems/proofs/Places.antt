@@ -5,7 +5,8 @@ use native.Mathlib.Nat.{zero-add, suc-add, add-zero}
 use mathlib.Core.Path.{_≡_, ap, _∙_}
 use mathlib.Core.Bool.{true, false}
 use mathlib.Core.List.{List, [], _∷_, _++_}
-use Rattle.base.specs.If.{if_then_else_, case}
+use Rattle.base.specs.If.{if_then_else_}
+use Rattle.base.proofs.Choice.{case}
 use Rattle.base.specs.Page.{byteAt}
 use Rattle.body_places.specs.Body.{prefixAfter, inPrefix, placesFrom, expressionPlaces, allFrom}
 use Rattle.body_theorems.specs.Events.{spanOf}

@@ -8,8 +8,10 @@ use mathlib.Core.List.{List}
 use lib.Dec.{leb, eqb}
 use lib.ListN.{length}
 use borrow.Author.Tests.{eqb-true}
-use Rattle.base.specs.If.{if_then_else_, case}
-use Rattle.base.specs.Range.{within, within-is}
+use Rattle.base.specs.If.{if_then_else_}
+use Rattle.base.proofs.Choice.{case}
+use Rattle.base.specs.Range.{within}
+use Rattle.base.proofs.Ranges.{within-is}
 use Rattle.base.specs.Page.{byteAt}
 use Rattle.base.specs.State as state
 use Rattle.base.specs.declared.Move.{Move}

@@ -7,7 +7,8 @@ use mathlib.Core.List.{List}
 use lib.Dec.{eqb}
 use lib.ListN.{length}
 use borrow.Author.Tests.{eqb-true}
-use Rattle.base.specs.If.{if_then_else_, both}
+use Rattle.base.specs.If.{if_then_else_}
+use Rattle.base.proofs.Choice.{both}
 use Rattle.body_places.specs.Body.{expressionPlaces}
 use Rattle.tokenizer.specs.Ranges.{inRange}
 use Rattle.scan.specs.declared.Scan.{Scan}

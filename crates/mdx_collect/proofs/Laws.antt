@@ -9,7 +9,8 @@ use lib.Dec.{ltb, eqb}
 use lib.ListN.{length, set}
 use lib.Seq.{sets}
 use borrow.Author.Tests.{ne-eqb, ltb-true}
-use Rattle.base.specs.If.{if_then_else_, case, both, and-no′, and-yes}
+use Rattle.base.specs.If.{if_then_else_}
+use Rattle.base.proofs.Choice.{case, both, and-no′, and-yes}
 use Rattle.base.specs.Page.{byteAt}
 use Rattle.char_class.specs.Class.{isSpaceOrTab}
 use Rattle.body_places.specs.Body.{prefixAfter, inPrefix, placesFrom, bytesAt}

@@ -11,7 +11,8 @@ use mathlib.Core.List.{List}
 use borrow.Author.Tests.{ltb-true, ltb-false, leb-true, leb-false}
 use lib.Dec.{ltb}
 use lib.ListN.{length}
-use Rattle.base.specs.If.{if_then_else_, if-is}
+use Rattle.base.specs.If.{if_then_else_}
+use Rattle.base.proofs.Choice.{if-is}
 use Rattle.page.specs.declared.Checked.{Checked}
 use Rattle.page.specs.declared.Checked.the-variants.{Good, TooLong, BadStart, BadText}
 use Rattle.page.specs.Text.{readText, GoodText, FirstFault}

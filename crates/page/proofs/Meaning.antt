@@ -14,7 +14,7 @@ use lib.Dec.{eqb}
 use lib.ListN.{length, take, drop, length-append, length-drop, take-append-drop}
 use lib.Seq.{length-take-le, take-add, drop-drop, getD-drop, drop-append-seam}
 use Rattle.base.specs.Byte.{carriageReturn}
-use Rattle.base.specs.If.{case, or-yes, or-yes′}
+use Rattle.base.proofs.Choice.{case, or-yes, or-yes′}
 use Rattle.page.specs.declared.Checked.{Checked}
 use Rattle.page.specs.declared.Checked.the-variants.{Good, TooLong, BadStart, BadText}
 use Rattle.page.specs.Utf8.{table, sequence, Begins, Sequence, WellFormed}

@@ -9,8 +9,9 @@ use borrow.Author.Tests.{ltb-true, ltb-false}
 use lib.Dec.{ltb, lit<}
 use lib.ListN.{length, getD, drop, drop-of-length-le}
 use lib.Seq.{drop-cons}
-use Rattle.base.specs.If.{if_then_else_, if-yes, case, and-yes, and-no, and-no′}
-use Rattle.base.specs.Range.{is-within}
+use Rattle.base.specs.If.{if_then_else_}
+use Rattle.base.proofs.Choice.{if-yes, case, and-yes, and-no, and-no′}
+use Rattle.base.proofs.Ranges.{is-within}
 use Rattle.page.specs.Utf8.{Range, Row, holds, holdsAt, table, begins, sequence}
 use Rattle.page.proofs.Rows.{listed, by-row, past-the-rows, between-rows, row-nonempty}
 

@@ -9,7 +9,7 @@ use lib.Dec.{eqb}
 use lib.ListN.{length, getD, drop, length-drop}
 use lib.Seq.{drop-drop}
 use Rattle.base.specs.Byte.{carriageReturn}
-use Rattle.base.specs.If.{if-yes, if-no, or-yes, or-yes′, or-no, both}
+use Rattle.base.proofs.Choice.{if-yes, if-no, or-yes, or-yes′, or-no, both}
 use Rattle.page.specs.declared.Checked.{Checked}
 use Rattle.page.specs.declared.Checked.the-variants.{BadText}
 use Rattle.page.specs.Utf8.{Row, holds, table, begins, sequence}

@@ -9,8 +9,10 @@ use mathlib.Core.List.{List, [], _∷_, List·Memᴰ, List·Memᴰ·head, List·
 use borrow.Author.Tests.{leb-true}
 use lib.Dec.{leb}
 use lib.ListN.{length, getD, drop}
-use Rattle.base.specs.If.{if_then_else_, if-yes, if-no, case, and-no, both}
-use Rattle.base.specs.Range.{within, below, above}
+use Rattle.base.specs.If.{if_then_else_}
+use Rattle.base.proofs.Choice.{if-yes, if-no, case, and-no, both}
+use Rattle.base.specs.Range.{within}
+use Rattle.base.proofs.Ranges.{below, above}
 use Rattle.page.specs.Utf8.{Range, Row, holds, table, begins, sequenceIn, sequence}
 
 pub range-low : (r : Range) (b : ℕ) → holds r b ≡ true → r .0 ≤ b

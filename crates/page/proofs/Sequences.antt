@@ -10,7 +10,7 @@ use lib.Dec.{ltb}
 use lib.ListN.{length, take}
 use lib.Seq.{length-take-le}
 use Rattle.base.specs.Byte.{carriageReturn}
-use Rattle.base.specs.If.{if-yes, and-yes, both}
+use Rattle.base.proofs.Choice.{if-yes, and-yes, both}
 use Rattle.page.specs.Utf8.{Range, Row, holds, table, begins, sequence, Begins, Sequence}
 use Rattle.page.specs.Text.{NoReturn}
 use Rattle.page.proofs.Rows.{range-low, by-row, found, row-nonempty}

@@ -7,7 +7,8 @@ use borrow.Author.Tests.{eqb-true, eqb-false}
 use lib.Dec.{eqb}
 use lib.ListN.{length, getD, set, length-set, length-map, List·getD-map}
 use lib.Seq.{getD-set-same, getD-set-other, ext-getD}
-use Rattle.base.specs.If.{if_then_else_, case}
+use Rattle.base.specs.If.{if_then_else_}
+use Rattle.base.proofs.Choice.{case}
 use Rattle.report.specs.Small.{smallOf, inSmall}
 
 pub record UpTo (s t : List ℕ) (i : ℕ) : Type 0 where

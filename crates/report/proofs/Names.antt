@@ -5,7 +5,7 @@ use mathlib.Core.Path.{_≡_, refl, _∙_}
 use mathlib.Core.List.{List}
 use lib.Dec.{eqb}
 use borrow.Author.Tests.{ne-eqb}
-use Rattle.base.specs.If.{if-no, picks}
+use Rattle.base.proofs.Choice.{if-no, picks}
 use Rattle.base.specs.Table.{find}
 use Rattle.report.specs.Name.{unknown, kindName, expressionName, tagName, attributeName, lastName}
 

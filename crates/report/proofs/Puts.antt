@@ -10,7 +10,8 @@ use lib.Dec.{ltb}
 use lib.ListN.{length, set, length-append}
 use lib.Seq.{sets, length-sets}
 use borrow.Author.Tests.{ltb-true, ltb-false, le-ltb}
-use Rattle.base.specs.If.{if_then_else_, case, picks}
+use Rattle.base.specs.If.{if_then_else_}
+use Rattle.base.proofs.Choice.{case, picks}
 use Rattle.report.specs.Put.{Put, outcome, inRoom, putFrom, putOf, textOf}
 
 -- ---- a place inside the buffer

@@ -1,7 +1,7 @@
 -- Where a buffer on its way to standard output goes on.
 use Prim.Native.Nat.{ℕ, _-_, _≤_, _<_}
 use mathlib.Core.Path.{_≡_}
-use Rattle.base.specs.If.{picks}
+use Rattle.base.proofs.Choice.{picks}
 use Rattle.report.specs.Output.{freePlace}
 use Rattle.report.specs.Put.{inRoom}
 

@@ -4,7 +4,8 @@ use native.Mathlib.Omega.{arith}
 use mathlib.Core.Path.{_≡_, refl, sym}
 use mathlib.Core.Bool.{true}
 use mathlib.Core.List.{List}
-use Rattle.base.specs.If.{if_then_else_, case}
+use Rattle.base.specs.If.{if_then_else_}
+use Rattle.base.proofs.Choice.{case}
 use Rattle.page.specs.Page.{pageCheck, Admitted}
 use Rattle.page.specs.declared.Checked.{Checked}
 use Rattle.page.specs.declared.Checked.the-variants as checked

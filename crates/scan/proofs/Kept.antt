@@ -6,7 +6,8 @@ use mathlib.Core.List.{List, [], _∷_, _++_, append-assoc, append-nil}
 use lib.ListN.{length, take, drop, length-append, length-drop}
 use lib.Seq.{take-at, drop-append-add, drop-drop}
 use borrow.Author.Tests.{ltb-false}
-use Rattle.base.specs.If.{if_then_else_, if-is, case}
+use Rattle.base.specs.If.{if_then_else_}
+use Rattle.base.proofs.Choice.{if-is, case}
 use Rattle.base.specs.State.{full}
 use Rattle.base.specs.Decide.{retry, countOf}
 use Rattle.base.specs.declared.Marks.the-variants.{Nothing}

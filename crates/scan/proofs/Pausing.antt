@@ -5,7 +5,8 @@ use native.Mathlib.Nat.{zero-add, suc-add, add-zero}
 use mathlib.Core.Path.{_≡_, refl, sym, ap, _∙_}
 use mathlib.Core.List.{List, [], _∷_, _++_, append-assoc}
 use lib.ListN.{length, length-append}
-use Rattle.base.specs.If.{if_then_else_, case}
+use Rattle.base.specs.If.{if_then_else_}
+use Rattle.base.proofs.Choice.{case}
 use Rattle.base.specs.State.{rests}
 use Rattle.events.specs.declared.Event.{Event}
 use Rattle.events.specs.Words.{written}

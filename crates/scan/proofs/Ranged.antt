@@ -5,7 +5,7 @@ use mathlib.Core.Path.{_≡_, sym}
 use mathlib.Core.Bool.{true}
 use lib.Dec.{leb, ltb, eqb}
 use borrow.Author.Tests.{leb-true, eqb-true}
-use Rattle.base.specs.If.{both}
+use Rattle.base.proofs.Choice.{both}
 use Rattle.events.specs.Words.{roomIn}
 use Rattle.tokenizer.specs.declared.Tokenizer.{Tokenizer}
 use Rattle.base.specs.Page.{pageLimit}

@@ -7,7 +7,8 @@ use mathlib.Core.Bool.{Bool, true, false}
 use mathlib.Core.List.{List, [], _++_}
 use lib.ListN.{length}
 use borrow.Author.Tests.{lt-ltb, le-ltb}
-use Rattle.base.specs.If.{if_then_else_, case}
+use Rattle.base.specs.If.{if_then_else_}
+use Rattle.base.proofs.Choice.{case}
 use Rattle.base.specs.Page.{byteAt}
 use Rattle.base.specs.State.{rests}
 use Rattle.base.specs.Decide.{eat}

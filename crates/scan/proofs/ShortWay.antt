@@ -7,8 +7,10 @@ use mathlib.Core.List.{List}
 use lib.Dec.{eqb}
 use borrow.Author.Tests.{eqb-true, eqb-false, ne-eqb}
 use Rattle.base.specs.Byte.{lineFeed, leftBrace, rightBrace, endOfPage}
-use Rattle.base.specs.If.{if_then_else_, case, among, and-no, and-no′, or-no, or-cases, or-left, or-right, not-yes}
-use Rattle.base.specs.Range.{within, within-is, below, above}
+use Rattle.base.specs.If.{if_then_else_, among}
+use Rattle.base.proofs.Choice.{case, and-no, and-no′, or-no, or-cases, or-left, or-right, not-yes}
+use Rattle.base.specs.Range.{within}
+use Rattle.base.proofs.Ranges.{within-is, below, above}
 use Rattle.base.specs.Table.{find}
 use Rattle.base.specs.Decide.{eat}
 use Rattle.base.specs.declared.Marks.the-variants.{Nothing}

@@ -7,7 +7,8 @@ use mathlib.Core.List.{List, []}
 use lib.ListN.{length}
 use lib.Dec.{ltb}
 use borrow.Author.Tests.{ltb-true, ltb-false, le-ltb}
-use Rattle.base.specs.If.{if_then_else_, if-yes, if-no, if-is}
+use Rattle.base.specs.If.{if_then_else_}
+use Rattle.base.proofs.Choice.{if-yes, if-no, if-is}
 use Rattle.base.specs.State.{full}
 use Rattle.base.specs.Decide.{eat, retry, listOf, countOf}
 use Rattle.base.specs.declared.Marks.{Marks}

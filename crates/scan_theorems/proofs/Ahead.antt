@@ -7,7 +7,7 @@ use mathlib.Core.List.{List}
 use lib.ListN.{length}
 use lib.Dec.{leb}
 use borrow.Author.Tests.{le-leb}
-use Rattle.base.specs.If.{or-yes}
+use Rattle.base.proofs.Choice.{or-yes}
 use Rattle.base.specs.State.{mdxEsmLineStart, mdxEsmContinuationStart, mdxEsmBlankLineBefore, mdxEsmBlankLine, mdxEsmAtEnd}
 use Rattle.scan_theorems.proofs.Tests.{clash}
 use Rattle.scan_theorems.proofs.Blanks.{blanks}

@@ -4,7 +4,8 @@ use mathlib.Core.Path.{_≡_, refl}
 use mathlib.Core.Bool.{true, false}
 use native.Mathlib.Omega.{arith}
 use lib.Dec.{eqb}
-use Rattle.base.specs.If.{if_then_else_, case, or-no}
+use Rattle.base.specs.If.{if_then_else_}
+use Rattle.base.proofs.Choice.{case, or-no}
 use Rattle.base.specs.Range.{within}
 use Rattle.base.specs.Table.{find}
 use Rattle.base.specs.Byte.{lineFeed, slash, colon, equalsSign}

@@ -9,7 +9,8 @@ use lib.ListN.{length, drop, getD, length-drop}
 use lib.Seq.{drop-cons}
 use lib.Dec.{ltb}
 use borrow.Author.Tests.{ltb-true, ltb-false}
-use Rattle.base.specs.If.{if_then_else_, if-is, case}
+use Rattle.base.specs.If.{if_then_else_}
+use Rattle.base.proofs.Choice.{if-is, case}
 use Rattle.base.specs.Page.{byteAt}
 use Rattle.char_class.specs.Class.{isSpaceOrTab}
 use Rattle.body_places.proofs.Place.{byte-in}

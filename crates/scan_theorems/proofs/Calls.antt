@@ -8,7 +8,8 @@ use mathlib.Core.List.{List}
 use lib.ListN.{length, replicate, length-replicate}
 use lib.Dec.{leb, ltb, eqb}
 use borrow.Author.Tests.{leb-true, le-leb, ltb-true, ltb-false}
-use Rattle.base.specs.If.{if_then_else_, if-is, case, both, and-yes}
+use Rattle.base.specs.If.{if_then_else_}
+use Rattle.base.proofs.Choice.{if-is, case, both, and-yes}
 use Rattle.base.specs.Page.{pageLimit, byteAt}
 use Rattle.base.specs.Range.{within}
 use Rattle.base.specs.State.{full, asking, rests}

@@ -7,7 +7,7 @@ use native.Mathlib.Omega.{arith}
 use lib.Dec.{leb, ltb, eqb}
 use borrow.Author.Tests.{leb-true, ltb-true}
 use borrow.Author.Needs.{needs}
-use Rattle.base.specs.If.{if-is, case, both}
+use Rattle.base.proofs.Choice.{if-is, case, both}
 use Rattle.base.specs.State.{rests}
 use Rattle.base.specs.declared.Effect.{Effect}
 use Rattle.base.specs.declared.Effect.the-variants.{Keep, Deeper, Shallower, Open, PrefixBegins, PrefixGoesOn, PrefixEnds, Quote, Return, Save, Restore, Last, Fault, Refuse}

@@ -5,7 +5,8 @@ use mathlib.Core.Bool.{Bool, true, false}
 use mathlib.Core.List.{List}
 use lib.Dec.{leb, eqb}
 use borrow.Author.Tests.{eqb-true}
-use Rattle.base.specs.If.{if-is, case, both, among}
+use Rattle.base.specs.If.{among}
+use Rattle.base.proofs.Choice.{if-is, case, both}
 use Rattle.base.specs.Byte.{quotationMark, apostrophe}
 use Rattle.base.specs.Range.{within}
 use Rattle.base.specs.declared.Move.{Move}

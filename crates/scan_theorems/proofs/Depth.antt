@@ -8,7 +8,8 @@ use mathlib.Core.List.{List, [], _∷_}
 use lib.Dec.{leb, ltb, eqb}
 use lib.ListN.{length}
 use borrow.Author.Tests.{lt-ltb, leb-true}
-use Rattle.base.specs.If.{if_then_else_, if-is, case, both}
+use Rattle.base.specs.If.{if_then_else_}
+use Rattle.base.proofs.Choice.{if-is, case, both}
 use Rattle.base.specs.Byte.{leftBrace}
 use Rattle.base.specs.Page.{byteAt, pageLimit}
 use Rattle.base.specs.State as state

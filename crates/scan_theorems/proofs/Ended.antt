@@ -5,7 +5,7 @@ use mathlib.Core.Path.{_≡_}
 use mathlib.Core.Bool.{true}
 use mathlib.Core.List.{List}
 use native.Mathlib.Omega.{arith}
-use Rattle.base.specs.If.{or-yes}
+use Rattle.base.proofs.Choice.{or-yes}
 use Rattle.base.specs.State.{full}
 use Rattle.tokenizer.specs.Ranges.{isAnswer, listed}
 use Rattle.tokenizer.specs.declared.Tokenizer.{Tokenizer}

@@ -8,7 +8,8 @@ use native.Mathlib.Omega.{arith}
 use lib.ListN.{length}
 use lib.Dec.{leb, eqb}
 use borrow.Author.Tests.{lt-ltb, leb-true}
-use Rattle.base.specs.If.{if_then_else_, if-is}
+use Rattle.base.specs.If.{if_then_else_}
+use Rattle.base.proofs.Choice.{if-is}
 use Rattle.base.specs.Table.{find}
 use Rattle.base.specs.State as state
 use Rattle.base.specs.Decide.{eat, retryWith}

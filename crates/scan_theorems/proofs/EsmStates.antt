@@ -8,7 +8,8 @@ use native.Mathlib.Omega.{arith}
 use lib.ListN.{length}
 use lib.Dec.{eqb}
 use borrow.Author.Tests.{eqb-true}
-use Rattle.base.specs.If.{both, among}
+use Rattle.base.specs.If.{among}
+use Rattle.base.proofs.Choice.{both}
 use Rattle.base.specs.Page.{byteAt}
 use Rattle.base.specs.Byte.{lineFeed, space, endOfPage}
 use Rattle.base.specs.State as state

@@ -9,8 +9,10 @@ use mathlib.Core.Bool.{Bool, true, false, _&&_, _||_}
 use mathlib.Core.List.{List, [], _∷_}
 use lib.Dec.{eqb}
 use borrow.Author.Tests.{eqb-true}
-use Rattle.base.specs.If.{if-is, both, among}
-use Rattle.base.specs.Range.{within, within-is, is-within, above}
+use Rattle.base.specs.If.{among}
+use Rattle.base.proofs.Choice.{if-is, both}
+use Rattle.base.specs.Range.{within}
+use Rattle.base.proofs.Ranges.{within-is, is-within, above}
 use Rattle.base.specs.Table.{find}
 use Rattle.base.specs.State as state
 use Rattle.base.specs.Decide.{retry}

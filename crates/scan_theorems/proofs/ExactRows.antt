@@ -10,8 +10,10 @@ use lib.Dec.{ltb, eqb}
 use lib.ListN.{length}
 use borrow.Author.Tests.{ltb-true, ltb-false, lt-ltb, le-ltb, ne-eqb}
 use Rattle.base.specs.Byte.{endOfPage}
-use Rattle.base.specs.If.{if_then_else_, if-is, case, both, among, and-no, and-no′, and-yes, or-left, or-right}
-use Rattle.base.specs.Range.{within, within-is, is-within}
+use Rattle.base.specs.If.{if_then_else_, among}
+use Rattle.base.proofs.Choice.{if-is, case, both, and-no, and-no′, and-yes, or-left, or-right}
+use Rattle.base.specs.Range.{within}
+use Rattle.base.proofs.Ranges.{within-is, is-within}
 use Rattle.base.specs.Table.{find}
 use Rattle.base.specs.Page.{byteAt}
 use Rattle.base.specs.State as state

@@ -4,7 +4,8 @@ use mathlib.Core.Path.{_≡_, refl}
 use mathlib.Core.Bool.{Bool, true, false}
 use native.Mathlib.Omega.{arith}
 use lib.Dec.{ltb, eqb}
-use Rattle.base.specs.If.{if_then_else_, if-is, case, or-no, both}
+use Rattle.base.specs.If.{if_then_else_}
+use Rattle.base.proofs.Choice.{if-is, case, or-no, both}
 use Rattle.base.specs.Range.{within}
 use Rattle.base.specs.Table.{find}
 use Rattle.base.specs.Byte.{leftBrace, rightBrace, endOfPage}

@@ -6,8 +6,9 @@ use mathlib.Core.List.{List}
 use native.Mathlib.Omega.{arith}
 use lib.Dec.{leb, eqb}
 use borrow.Author.Tests.{ltb-false, eqb-true, lt-leb}
-use Rattle.base.specs.If.{case, or-cases}
-use Rattle.base.specs.Range.{within, within-is}
+use Rattle.base.proofs.Choice.{case, or-cases}
+use Rattle.base.specs.Range.{within}
+use Rattle.base.proofs.Ranges.{within-is}
 use Rattle.base.specs.Page.{byteAt}
 use Rattle.base.specs.State.{done, nok, notAscii, full, badCall, asking, rests, mdxExpressionStart, mdxJsxEsWhitespaceInsideRetried}
 use Rattle.base.specs.declared.Move.{Move}

@@ -5,7 +5,7 @@ use mathlib.Core.Bool.{Bool, true, _&&_}
 use mathlib.Core.List.{List, [], _∷_}
 use lib.Dec.{leb, eqb}
 use borrow.Author.Tests.{leb-true}
-use Rattle.base.specs.If.{if-is, both}
+use Rattle.base.proofs.Choice.{if-is, both}
 use Rattle.base.specs.Table.{find}
 
 -- a table of numbers that are at most the limit

@@ -5,8 +5,9 @@ use mathlib.Core.Bool.{Bool, true, false, _&&_}
 use native.Mathlib.Omega.{arith}
 use lib.Dec.{leb, eqb}
 use borrow.Author.Tests.{leb-true, le-leb, ltb-false, ne-eqb}
-use Rattle.base.specs.If.{if_then_else_, both}
-use Rattle.base.specs.Range.{above}
+use Rattle.base.specs.If.{if_then_else_}
+use Rattle.base.proofs.Choice.{both}
+use Rattle.base.proofs.Ranges.{above}
 use Rattle.base.specs.State.{asking, rests}
 use Rattle.base.specs.Page.{pageLimit}
 use Rattle.tokenizer.specs.Ranges.{esm, jobInRange, runsIn, isAnswer, listed, isReturn, numbersInRange, placesInRange, regsInRange, verdictInRange, inRange}

@@ -6,7 +6,8 @@ use mathlib.Core.Bool.{Bool, true}
 use mathlib.Core.List.{List, [], _∷_}
 use native.Mathlib.Omega.{arith}
 use lib.Dec.{eqb}
-use Rattle.base.specs.If.{if_then_else_, if-is}
+use Rattle.base.specs.If.{if_then_else_}
+use Rattle.base.proofs.Choice.{if-is}
 use Rattle.base.specs.Table.{find}
 use Rattle.base.specs.Byte.{lineFeed, endOfPage}
 use Rattle.base.specs.State as state

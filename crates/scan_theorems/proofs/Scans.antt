@@ -8,7 +8,8 @@ use mathlib.Core.List.{List, [], _∷_}
 use lib.ListN.{length}
 use lib.Dec.{eqb}
 use borrow.Author.Tests.{le-leb, ltb-false, lt-ltb, eqb-true}
-use Rattle.base.specs.If.{if_then_else_, if-is, if-yes, case, and-yes}
+use Rattle.base.specs.If.{if_then_else_}
+use Rattle.base.proofs.Choice.{if-is, if-yes, case, and-yes}
 use Rattle.base.specs.Range.{within}
 use Rattle.base.specs.State.{full, asking, rests}
 use Rattle.base.specs.Decide.{retry, countOf}

@@ -8,8 +8,9 @@ use mathlib.Core.List.{List}
 use lib.Dec.{leb, ltb, eqb}
 use borrow.Author.Tests.{ne-eqb, eq-eqb, eqb-true, leb-true}
 use Rattle.base.specs.Byte.{greaterThan}
-use Rattle.base.specs.If.{if_then_else_, if-is, case, or-cases, or-no, or-yes, both}
-use Rattle.base.specs.Range.{within-is}
+use Rattle.base.specs.If.{if_then_else_}
+use Rattle.base.proofs.Choice.{if-is, case, or-cases, or-no, or-yes, both}
+use Rattle.base.proofs.Ranges.{within-is}
 use Rattle.base.specs.Page.{byteAt}
 use Rattle.base.specs.State as state
 use Rattle.base.specs.Decide.{retry}

@@ -6,8 +6,10 @@ use mathlib.Core.Bool.{Bool, true, false, not, _||_}
 use mathlib.Core.List.{List, [], _∷_}
 use lib.Dec.{leb, eqb}
 use borrow.Author.Tests.{leb-false, ltb-false, eq-eqb, ne-eqb}
-use Rattle.base.specs.If.{if_then_else_, if-is, case, among, or-cases}
-use Rattle.base.specs.Range.{within, within-is, above}
+use Rattle.base.specs.If.{if_then_else_, among}
+use Rattle.base.proofs.Choice.{if-is, case, or-cases}
+use Rattle.base.specs.Range.{within}
+use Rattle.base.proofs.Ranges.{within-is, above}
 use Rattle.base.specs.Table.{find}
 use Rattle.base.specs.Page.{byteAt}
 use Rattle.base.specs.State as state

@@ -7,7 +7,8 @@ use native.Mathlib.Omega.{arith}
 use lib.ListN.{length}
 use lib.Dec.{leb, ltb, eqb}
 use borrow.Author.Tests.{ltb-true, lt-ltb}
-use Rattle.base.specs.If.{if_then_else_, case, both, if-is}
+use Rattle.base.specs.If.{if_then_else_}
+use Rattle.base.proofs.Choice.{case, both, if-is}
 use Rattle.base.specs.Page.{byteAt}
 use Rattle.base.specs.State.{badCall}
 use Rattle.base.specs.declared.Effect.{Effect}

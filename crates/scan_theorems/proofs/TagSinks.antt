@@ -5,7 +5,8 @@ use mathlib.Core.Path.{_≡_, refl}
 use mathlib.Core.Bool.{Bool, true, false}
 use native.Mathlib.Omega.{arith}
 use lib.Dec.{eqb}
-use Rattle.base.specs.If.{if_then_else_, case}
+use Rattle.base.specs.If.{if_then_else_}
+use Rattle.base.proofs.Choice.{case}
 use Rattle.base.specs.Range.{within}
 use Rattle.base.specs.Table.{find}
 use Rattle.base.specs.Byte.{lineFeed, lessThan, endOfPage}

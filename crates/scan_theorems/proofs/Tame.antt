@@ -6,8 +6,10 @@ use native.Mathlib.Omega.{arith}
 use lib.Dec.{leb, eqb}
 use borrow.Author.Tests.{eqb-true, leb-true}
 use Rattle.base.specs.Byte.{atSign}
-use Rattle.base.specs.If.{if_then_else_, if-is, case, both, or-yes′}
-use Rattle.base.specs.Range.{within, is-within}
+use Rattle.base.specs.If.{if_then_else_}
+use Rattle.base.proofs.Choice.{if-is, case, both, or-yes′}
+use Rattle.base.specs.Range.{within}
+use Rattle.base.proofs.Ranges.{is-within}
 use Rattle.base.specs.State as state
 use Rattle.base.specs.declared.Effect.{Effect}
 use Rattle.base.specs.declared.Effect.the-variants.{Keep, Deeper, Shallower, Open, PrefixBegins, PrefixGoesOn, PrefixEnds, Quote, Return, Save, Restore, Last, Fault, Refuse}

@@ -5,7 +5,8 @@ use mathlib.Core.Bool.{Bool, true, false, _||_}
 use mathlib.Core.List.{[], _∷_}
 use lib.Dec.{eqb}
 use borrow.Author.Tests.{eqb-true}
-use Rattle.base.specs.If.{case, among}
+use Rattle.base.specs.If.{among}
+use Rattle.base.proofs.Choice.{case}
 use Rattle.base.specs.Range.{within}
 use Rattle.base.specs.Byte.{lineFeed, smallE, smallI, endOfPage}
 use Rattle.char_class.specs.Class.{isSpaceOrTab, isIdStart, isIdCont}

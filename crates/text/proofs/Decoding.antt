@@ -7,7 +7,8 @@ use borrow.Author.Tests.{le-leb, lt-leb}
 use lib.Dec.{leb}
 use lib.ListN.{length}
 use lib.Seq.{sets}
-use Rattle.base.specs.If.{if_then_else_, if-yes, if-no, and-yes, and-no′}
+use Rattle.base.specs.If.{if_then_else_}
+use Rattle.base.proofs.Choice.{if-yes, if-no, and-yes, and-no′}
 use Rattle.text.specs.declared.hexadecimal.Hex.{Hex}
 use Rattle.text.specs.declared.hexadecimal.Hex.the-variants.{Decoded, BadHex, NoRoom}
 use Rattle.text.specs.Part.{part, lies}

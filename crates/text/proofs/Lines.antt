@@ -7,7 +7,7 @@ use borrow.Author.Tests.{eq-eqb, ne-eqb}
 use lib.Dec.{eqb}
 use lib.ListN.{length, getD, drop, drop-of-length-le}
 use lib.Seq.{drop-cons}
-use Rattle.base.specs.If.{if-yes, if-no}
+use Rattle.base.proofs.Choice.{if-yes, if-no}
 use Rattle.text.specs.Find.{before}
 
 pub from-place : (line : List ℕ) (p : ℕ) → p < length line → drop p line ≡ getD line p 0 ∷ drop (p + 1) line

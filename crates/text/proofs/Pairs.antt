@@ -8,7 +8,8 @@ use borrow.Author.Tests.{leb-true, ltb-true, ltb-false}
 use lib.Dec.{leb, ltb}
 use lib.ListN.{length, getD, drop, drop-of-length-le}
 use Rattle.base.specs.Byte.{digit0, digit9, smallA}
-use Rattle.base.specs.If.{if_then_else_, if-is, case, both}
+use Rattle.base.specs.If.{if_then_else_}
+use Rattle.base.proofs.Choice.{if-is, case, both}
 use Rattle.base.specs.Range.{within}
 use Rattle.text.specs.Hex.{smallF, hexValue, isHex, pairs, bytesOf}
 use Rattle.text.proofs.Lines.{from-place}

@@ -8,7 +8,7 @@ use mathlib.Core.List.{List, [], _∷_}
 use borrow.Author.Tests.{ltb-true, ltb-false, eq-eqb, ne-eqb, eqb-true}
 use lib.Dec.{eqb, ltb}
 use lib.ListN.{length, getD, drop, drop-of-length-le}
-use Rattle.base.specs.If.{case, and-yes, both}
+use Rattle.base.proofs.Choice.{case, and-yes, both}
 use Rattle.text.specs.Word.{same}
 use Rattle.text.proofs.Lines.{from-place}
 

@@ -4,7 +4,7 @@ use mathlib.Core.Path.{_≡_}
 use mathlib.Core.List.{List}
 use lib.ListN.{length}
 use Rattle.base.specs.Byte.{lineFeed}
-use Rattle.base.specs.If.{picks}
+use Rattle.base.proofs.Choice.{picks}
 use Rattle.text.specs.declared.input.Input.{Input}
 use Rattle.text.specs.Find.{findFrom}
 use Rattle.text.specs.Input.{leastOf, lineOf, restOf, takenOf}

@@ -8,7 +8,7 @@ use mathlib.Core.List.{List, [], _∷_, _++_}
 use lib.ListN.{length, take, drop}
 use lib.Dec.{ltb, eqb}
 use borrow.Author.Tests.{eq-eqb, ne-eqb, le-leb, lt-leb, le-ltb, lt-ltb, ltb-true, leb-true}
-use Rattle.base.specs.If.{if-yes, if-no, if-is, and-yes, and-no, and-no′, and-also, both}
+use Rattle.base.proofs.Choice.{if-yes, if-no, if-is, and-yes, and-no, and-no′, and-also, both}
 use Rattle.base.specs.declared.Verdict.{Verdict}
 use Rattle.events.specs.Share.{shareOf, shareStart, shareIn}
 use Rattle.events.specs.Span.{frontOf}

@@ -11,7 +11,8 @@ use lib.ListN.{length, getD, set, drop, length-drop}
 use lib.Seq.{getD-set-same, length-take-le}
 use lib.Dec.{leb}
 use borrow.Author.Tests.{lt-ltb, leb-false}
-use Rattle.base.specs.If.{among, and-yes}
+use Rattle.base.specs.If.{among}
+use Rattle.base.proofs.Choice.{and-yes}
 use Rattle.base.specs.Number as number
 use Rattle.base.specs.State.{asking}
 use Rattle.base.specs.declared.Verdict.{Verdict}

@@ -12,7 +12,8 @@ use lib.ListN.{length, set, length-append}
 use lib.Seq.{getD-set-same, getD-set-other}
 use lib.Dec.{leb, eqb}
 use borrow.Author.Tests.{eq-eqb, ne-eqb, eqb-true, eqb-false, le-leb, lt-leb, leb-true, le-ltb, lt-ltb, ltb-true, ltb-false}
-use Rattle.base.specs.If.{if_then_else_, if-is, if-yes, case, both, and-yes, and-no′}
+use Rattle.base.specs.If.{if_then_else_}
+use Rattle.base.proofs.Choice.{if-is, if-yes, case, both, and-yes, and-no′}
 use Rattle.base.specs.Number as number
 use Rattle.base.specs.State.{asking, rests}
 use Rattle.base.specs.declared.Verdict.{Verdict}

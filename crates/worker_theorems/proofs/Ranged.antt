@@ -11,7 +11,8 @@ use lib.ListN.{length, set, length-set, getD-replicate}
 use lib.Seq.{getD-set-same, getD-set-other}
 use lib.Dec.{ltb, leb, eqb}
 use borrow.Author.Tests.{eq-eqb, le-leb, lt-ltb, ltb-true, leb-true, eqb-true}
-use Rattle.base.specs.If.{if_then_else_, if-is, case, and-yes, both, or-yes, or-yes′, or-cases}
+use Rattle.base.specs.If.{if_then_else_}
+use Rattle.base.proofs.Choice.{if-is, case, and-yes, both, or-yes, or-yes′, or-cases}
 use Rattle.base.specs.declared.Verdict.{Verdict}
 use Rattle.events.specs.Share.{shareOf}
 use Rattle.scan.specs.declared.Scan.{Scan}

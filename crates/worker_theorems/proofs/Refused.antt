@@ -6,8 +6,10 @@ use mathlib.Core.Bool.{Bool, true, false, not, _||_}
 use mathlib.Core.List.{List, [], _∷_}
 use lib.Dec.{leb, eqb}
 use borrow.Author.Tests.{leb-false}
-use Rattle.base.specs.If.{if-is, if_then_else_, both, not-yes, among, or-left, or-right}
-use Rattle.base.specs.Range.{within, within-is}
+use Rattle.base.specs.If.{if_then_else_, among}
+use Rattle.base.proofs.Choice.{if-is, both, not-yes, or-left, or-right}
+use Rattle.base.specs.Range.{within}
+use Rattle.base.proofs.Ranges.{within-is}
 use Rattle.tokenizer.specs.Ranges.{esm, isAnswer, runsIn, listed, inRange}
 use Rattle.scan.specs.declared.Scan.{Scan}
 use Rattle.scan.specs.Answer.{Said, refused, endAnswers, pageAnswers, verdictAnswers, verdictRefusal, refusal, answerOf}

@@ -9,7 +9,8 @@ use lib.ListN.{length, drop, length-append}
 use lib.Seq.{take-at}
 use lib.Dec.{eqb}
 use borrow.Author.Tests.{lt-ltb, eq-eqb}
-use Rattle.base.specs.If.{if_then_else_, if-yes, case}
+use Rattle.base.specs.If.{if_then_else_}
+use Rattle.base.proofs.Choice.{if-yes, case}
 use Rattle.base.specs.State.{asking, rests}
 use Rattle.base.specs.declared.Verdict.{Verdict}
 use Rattle.events.specs.declared.Event.{Event}

@@ -11,7 +11,8 @@ use lib.ListN.{length, drop, length-drop}
 use lib.Seq.{length-take-le}
 use lib.Dec.{leb, eqb}
 use borrow.Author.Tests.{eq-eqb, lt-ltb}
-use Rattle.base.specs.If.{if_then_else_, case, and-yes, both}
+use Rattle.base.specs.If.{if_then_else_}
+use Rattle.base.proofs.Choice.{case, and-yes, both}
 use Rattle.base.specs.Number as number
 use Rattle.base.specs.State.{firstRunning}
 use Rattle.events.specs.Share.{shareOf, shareIn, withShare}

@@ -8,7 +8,8 @@ use lib.ListN.{length, set}
 use lib.Seq.{set-getD}
 use lib.Dec.{eqb}
 use borrow.Author.Tests.{leb-true, leb-false, eqb-true}
-use Rattle.base.specs.If.{if_then_else_, if-is, case, both, not-yes, among}
+use Rattle.base.specs.If.{if_then_else_, among}
+use Rattle.base.proofs.Choice.{if-is, case, both, not-yes}
 use Rattle.base.specs.Number as number
 use Rattle.base.specs.declared.Verdict.{Verdict}
 use Rattle.events.specs.Share.{shareOf}

@@ -2,7 +2,7 @@ use native.Mathlib.Omega.{arith}
 use mathlib.Core.Path.{refl, sym}
 use borrow.Author.Needs.{needs}
 use borrow.Author.Tests.{le-ltb, lt-ltb}
-use Rattle.base.specs.If.{and-no, and-also}
+use Rattle.base.proofs.Choice.{and-no, and-also}
 use Rattle.base.specs.Page.{afterLineFeed}
 use Rattle.base.proofs.after_line_feed.Statement.{statement}
 use Rattle.base.proofs.after_line_feed.Tie as tie

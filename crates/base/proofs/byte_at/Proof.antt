@@ -1,4 +1,4 @@
-use Rattle.base.specs.If.{picks}
+use Rattle.base.proofs.Choice.{picks}
 use Rattle.base.specs.Page.{byteAt}
 use borrow.Author.Needs.{needs}
 use Rattle.base.proofs.byte_at.Statement.{statement}

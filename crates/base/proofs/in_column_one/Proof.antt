@@ -1,4 +1,4 @@
-use Rattle.base.specs.If.{picks}
+use Rattle.base.proofs.Choice.{picks}
 use borrow.Author.Needs.{needs}
 use Rattle.base.proofs.in_column_one.Statement.{statement}
 use Rattle.base.proofs.in_column_one.Tie as tie

@@ -3,7 +3,7 @@ use native.Mathlib.Omega.{arith}
 use mathlib.Core.Path.{_≡_, refl, sym, _∙_}
 use borrow.Author.Needs.{needs}
 use borrow.Author.Tests.{ltb-true}
-use Rattle.base.specs.If.{both}
+use Rattle.base.proofs.Choice.{both}
 use Rattle.body_places.specs.Body.{placesFrom, placeOf, expressionPlaces}
 use Rattle.body_places.proofs.Laws.{skipped, passed, here, nowhere}
 use Rattle.body_places.proofs.expression_place.Statement.{statement}

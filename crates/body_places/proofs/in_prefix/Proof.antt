@@ -1,4 +1,4 @@
-use Rattle.base.specs.If.{picks}
+use Rattle.base.proofs.Choice.{picks}
 use borrow.Author.Needs.{needs}
 use Rattle.body_places.proofs.in_prefix.Statement.{statement}
 use Rattle.body_places.proofs.in_prefix.Tie as tie

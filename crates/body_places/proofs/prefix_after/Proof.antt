@@ -1,4 +1,4 @@
-use Rattle.base.specs.If.{picks}
+use Rattle.base.proofs.Choice.{picks}
 use Rattle.body_places.proofs.prefix_after.Statement.{statement}
 use Rattle.body_places.proofs.prefix_after.Tie as tie
 

@@ -2,7 +2,8 @@ use native.Mathlib.Omega.{arith}
 use mathlib.Core.Logic.{⊎-elim}
 use borrow.Author.Needs.{needs}
 use borrow.Author.Tests.{ne-eqb}
-use Rattle.base.specs.Range.{within, is-within, below, above}
+use Rattle.base.specs.Range.{within}
+use Rattle.base.proofs.Ranges.{is-within, below, above}
 use Rattle.char_class.specs.Class.{isIdCont}
 use Rattle.char_class.proofs.id_cont.Statement.{statement}
 use Rattle.char_class.proofs.id_cont.Tie as tie

@@ -2,8 +2,10 @@ use native.Mathlib.Omega.{arith}
 use mathlib.Core.Logic.{⊎-elim}
 use mathlib.Core.List.{[], _∷_}
 use Rattle.base.specs.Byte.{dollarSign, underscore}
-use Rattle.base.specs.If.{among, none-of}
-use Rattle.base.specs.Range.{within, is-within, below, above}
+use Rattle.base.specs.If.{among}
+use Rattle.base.proofs.Choice.{none-of}
+use Rattle.base.specs.Range.{within}
+use Rattle.base.proofs.Ranges.{is-within, below, above}
 use Rattle.char_class.specs.Class.{isIdStart}
 use Rattle.char_class.proofs.id_start.Statement.{statement}
 use Rattle.char_class.proofs.id_start.Tie as tie

@@ -1,5 +1,5 @@
 use mathlib.Core.Path.{sym}
-use Rattle.base.specs.If.{one-of, none-of}
+use Rattle.base.proofs.Choice.{one-of, none-of}
 use Rattle.char_class.specs.Class.{isSpaceOrTab}
 use Rattle.char_class.proofs.space_or_tab.Statement.{statement}
 use Rattle.char_class.proofs.space_or_tab.Tie as tie

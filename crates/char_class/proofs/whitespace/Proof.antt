@@ -1,6 +1,7 @@
 use native.Mathlib.Omega.{arith}
 use borrow.Author.Tests.{ne-eqb}
-use Rattle.base.specs.Range.{within, is-within, below, above}
+use Rattle.base.specs.Range.{within}
+use Rattle.base.proofs.Ranges.{is-within, below, above}
 use Rattle.char_class.specs.Class.{isWhitespace}
 use Rattle.char_class.proofs.whitespace.Statement.{statement}
 use Rattle.char_class.proofs.whitespace.Tie as tie

@@ -3,7 +3,7 @@ use mathlib.Core.Path.{refl}
 use lib.ListN.{length}
 use borrow.Author.Needs.{needs}
 use borrow.Author.Tests.{le-leb, lt-leb}
-use Rattle.base.specs.If.{if-yes, if-no}
+use Rattle.base.proofs.Choice.{if-yes, if-no}
 use Rattle.body_places.specs.Body.{expressionPlaces}
 use Rattle.mdx_collect.proofs.copied.Statement.{statement}
 use Rattle.mdx_collect.proofs.copied.Tie as tie

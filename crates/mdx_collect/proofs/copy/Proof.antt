@@ -7,7 +7,7 @@ use lib.ListN.{length, getD, set, length-set}
 use lib.Seq.{sets}
 use borrow.Author.Needs.{needs}
 use borrow.Author.Tests.{ltb-true}
-use Rattle.base.specs.If.{both}
+use Rattle.base.proofs.Choice.{both}
 use Rattle.base.specs.Page.{byteAt}
 use Rattle.body_places.proofs.Place.{byte-in}
 use Rattle.body_places.specs.Body.{inPrefix, prefixAfter, placesFrom, expressionPlaces, bytesAt}

@@ -4,7 +4,7 @@ use mathlib.Core.Path.{_≡_, sym, _∙_}
 use lib.ListN.{length}
 use borrow.Author.Needs.{needs}
 use borrow.Author.Tests.{ltb-true}
-use Rattle.base.specs.If.{both}
+use Rattle.base.proofs.Choice.{both}
 use Rattle.body_places.specs.Body.{placesFrom, expressionPlaces}
 use Rattle.mdx_collect.proofs.Laws.{passed-over, counted, all-counted}
 use Rattle.mdx_collect.proofs.count.Statement.{statement}

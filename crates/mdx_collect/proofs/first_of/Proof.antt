@@ -1,4 +1,4 @@
-use Rattle.base.specs.If.{picks}
+use Rattle.base.proofs.Choice.{picks}
 use Rattle.mdx_collect.proofs.first_of.Statement.{statement}
 use Rattle.mdx_collect.proofs.first_of.Tie as tie
 

@@ -1,7 +1,7 @@
 use mathlib.Core.Path.{sym, _∙_}
 use borrow.Author.Needs.{needs}
 use borrow.Author.Tests.{eq-eqb, ne-eqb, not-true, not-false}
-use Rattle.base.specs.If.{and-no, and-also}
+use Rattle.base.proofs.Choice.{and-no, and-also}
 use Rattle.mdx_collect.specs.Collect.{asked}
 use Rattle.mdx_collect.proofs.is_asked.Statement.{statement}
 use Rattle.mdx_collect.proofs.is_asked.Tie as tie

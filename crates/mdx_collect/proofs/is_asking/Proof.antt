@@ -1,5 +1,5 @@
 use borrow.Author.Needs.{needs}
-use Rattle.base.specs.If.{picks}
+use Rattle.base.proofs.Choice.{picks}
 use Rattle.mdx_collect.proofs.is_asking.Statement.{statement}
 use Rattle.mdx_collect.proofs.is_asking.Tie as tie
 

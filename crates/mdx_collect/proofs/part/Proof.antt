@@ -2,7 +2,7 @@ use borrow.Author.Needs.{needs}
 use mathlib.Core.Path.{_≡_, refl, _∙_}
 use mathlib.Core.List.{List, []}
 use Prim.Native.Nat.{ℕ}
-use Rattle.base.specs.If.{if-is}
+use Rattle.base.proofs.Choice.{if-is}
 use Rattle.mdx_collect.proofs.part.Statement.{statement}
 use Rattle.mdx_collect.proofs.part.Tie as tie
 

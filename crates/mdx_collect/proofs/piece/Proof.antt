@@ -4,7 +4,7 @@ use mathlib.Core.Path.{_≡_, refl, sym, _∙_}
 use lib.ListN.{length}
 use borrow.Author.Needs.{needs}
 use borrow.Author.Tests.{leb-true}
-use Rattle.base.specs.If.{if-yes, if-no}
+use Rattle.base.proofs.Choice.{if-yes, if-no}
 use Rattle.mdx_collect.proofs.piece.Statement.{statement}
 use Rattle.mdx_collect.proofs.piece.Tie as tie
 

@@ -1,6 +1,6 @@
 use native.Mathlib.Omega.{arith}
 use mathlib.Core.Path.{sym}
-use Rattle.base.specs.Range.{is-within, below, above}
+use Rattle.base.proofs.Ranges.{is-within, below, above}
 use Rattle.mdx_esm.proofs.in_word.Statement.{statement}
 use Rattle.mdx_esm.proofs.in_word.Tie as tie
 

@@ -3,7 +3,7 @@ use native.Mathlib.Omega.{arith}
 use mathlib.Core.Path.{sym, _∙_}
 use borrow.Author.Needs.{needs}
 use borrow.Author.Tests.{eq-eqb, ne-eqb}
-use Rattle.base.specs.If.{and-no, and-also, or-yes, or-else}
+use Rattle.base.proofs.Choice.{and-no, and-also, or-yes, or-else}
 use Rattle.mdx_esm.specs.Word.{isWord}
 use Rattle.mdx_esm.proofs.is_word.Statement.{statement}
 use Rattle.mdx_esm.proofs.is_word.Tie as tie

@@ -1,4 +1,4 @@
-use Rattle.base.specs.If.{picks}
+use Rattle.base.proofs.Choice.{picks}
 use Rattle.mdx_esm.proofs.line_ends.Statement.{statement}
 use Rattle.mdx_esm.proofs.line_ends.Tie as tie
 

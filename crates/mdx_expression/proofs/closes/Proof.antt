@@ -1,4 +1,4 @@
-use Rattle.base.specs.If.{picks}
+use Rattle.base.proofs.Choice.{picks}
 use Rattle.mdx_expression.proofs.closes.Statement.{statement}
 use Rattle.mdx_expression.proofs.closes.Tie as tie
 

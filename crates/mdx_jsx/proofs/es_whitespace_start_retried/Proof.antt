@@ -1,4 +1,4 @@
-use Rattle.base.specs.If.{picks}
+use Rattle.base.proofs.Choice.{picks}
 use borrow.Author.Needs.{needs}
 use Rattle.mdx_jsx.proofs.es_whitespace_start_retried.Statement.{statement}
 use Rattle.mdx_jsx.proofs.es_whitespace_start_retried.Tie as tie

@@ -1,4 +1,4 @@
-use Rattle.base.specs.If.{picks}
+use Rattle.base.proofs.Choice.{picks}
 use borrow.Author.Needs.{needs}
 use Rattle.mdx_jsx.proofs.in_a_name.Statement.{statement}
 use Rattle.mdx_jsx.proofs.in_a_name.Tie as tie

@@ -1,4 +1,4 @@
-use Rattle.base.specs.If.{picks}
+use Rattle.base.proofs.Choice.{picks}
 use Rattle.mdx_jsx.proofs.tag_goes_on.Statement.{statement}
 use Rattle.mdx_jsx.proofs.tag_goes_on.Tie as tie
 

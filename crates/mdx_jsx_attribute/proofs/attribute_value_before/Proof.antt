@@ -1,4 +1,4 @@
-use Rattle.base.specs.If.{picks}
+use Rattle.base.proofs.Choice.{picks}
 use borrow.Author.Needs.{needs}
 use Rattle.mdx_jsx_attribute.proofs.attribute_value_before.Statement.{statement}
 use Rattle.mdx_jsx_attribute.proofs.attribute_value_before.Tie as tie

@@ -1,4 +1,4 @@
-use Rattle.base.specs.If.{picks}
+use Rattle.base.proofs.Choice.{picks}
 use Rattle.mdx_jsx_attribute.proofs.opens_value.Statement.{statement}
 use Rattle.mdx_jsx_attribute.proofs.opens_value.Tie as tie
 

@@ -1,6 +1,6 @@
 use native.Mathlib.Omega.{arith}
 use borrow.Author.Tests.{ne-eqb}
-use Rattle.base.specs.Range.{is-within, below, above}
+use Rattle.base.proofs.Ranges.{is-within, below, above}
 use Rattle.mdx_jsx_name.proofs.link_like.Statement.{statement}
 use Rattle.mdx_jsx_name.proofs.link_like.Tie as tie
 

@@ -1,4 +1,4 @@
-use Rattle.base.specs.If.{picks}
+use Rattle.base.proofs.Choice.{picks}
 use Rattle.mdx_jsx_name.proofs.link_note.Statement.{statement}
 use Rattle.mdx_jsx_name.proofs.link_note.Tie as tie
 

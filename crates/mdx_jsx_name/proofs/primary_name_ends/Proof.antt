@@ -1,4 +1,4 @@
-use Rattle.base.specs.If.{picks}
+use Rattle.base.proofs.Choice.{picks}
 use borrow.Author.Needs.{needs}
 use Rattle.mdx_jsx_name.proofs.primary_name_ends.Statement.{statement}
 use Rattle.mdx_jsx_name.proofs.primary_name_ends.Tie as tie

@@ -5,7 +5,7 @@ use mathlib.Core.Path.{_≡_, sym, _∙_, ap}
 use borrow.Author.Needs.{needs}
 use borrow.Author.Tests.{leb-true}
 use lib.ListN.{length, take, drop}
-use Rattle.base.specs.If.{picks}
+use Rattle.base.proofs.Choice.{picks}
 use Rattle.page.specs.Text.{readText}
 use Rattle.page.specs.Page.{pageOf}
 use Rattle.page.proofs.check.Statement.{statement}

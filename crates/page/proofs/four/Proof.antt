@@ -5,7 +5,7 @@ use mathlib.Core.Path.{refl, sym, _∙_}
 use mathlib.Core.List.{[], _∷_}
 use borrow.Author.Needs.{needs}
 use lib.ListN.{drop}
-use Rattle.base.specs.If.{if-yes, if-no}
+use Rattle.base.proofs.Choice.{if-yes, if-no}
 use Rattle.page.specs.Utf8.{tail, begins}
 use Rattle.page.proofs.Places.{goes-on, stops, stops-later}
 use Rattle.page.proofs.four.Statement.{statement}

@@ -5,8 +5,8 @@ use borrow.Author.Needs.{needs}
 use borrow.Author.Tests.{le-ltb, lt-ltb}
 use lib.Dec.{ltb}
 use lib.ListN.{length, getD}
-use Rattle.base.specs.If.{and-yes, and-no, and-no′}
-use Rattle.base.specs.Range.{is-within, below, above}
+use Rattle.base.proofs.Choice.{and-yes, and-no, and-no′}
+use Rattle.base.proofs.Ranges.{is-within, below, above}
 use Rattle.page.specs.Utf8.{Range, holds, holdsAt}
 use Rattle.page.proofs.stands.Statement.{statement}
 use Rattle.page.proofs.stands.Tie as tie

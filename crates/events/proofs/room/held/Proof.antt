@@ -1,4 +1,4 @@
-use Rattle.base.specs.If.{picks}
+use Rattle.base.proofs.Choice.{picks}
 use Rattle.events.proofs.room.held.Statement.{statement}
 use Rattle.events.proofs.room.held.Tie as tie
 

@@ -1,5 +1,5 @@
 use native.Mathlib.Omega.{arith}
-use Rattle.base.specs.If.{picks}
+use Rattle.base.proofs.Choice.{picks}
 use borrow.Author.Needs.{needs}
 use Rattle.events.proofs.room.words_for.Statement.{statement}
 use Rattle.events.proofs.room.words_for.Tie as tie

@@ -1,5 +1,6 @@
 use Rattle.base.specs.If.{if_then_else_}
-use Rattle.base.specs.Table.{find, not-found}
+use Rattle.base.specs.Table.{find}
+use Rattle.base.proofs.Tables.{not-found}
 use Rattle.report.specs.Name.{lastName, lastNames, unknown}
 use Rattle.report.proofs.Puts.{put-as}
 use borrow.Author.Needs.{needs}

@@ -1,5 +1,5 @@
 use native.Mathlib.Omega.{arith}
-use Rattle.base.specs.If.{picks}
+use Rattle.base.proofs.Choice.{picks}
 use Rattle.report.proofs.pieces.in_room.Statement.{statement}
 use Rattle.report.proofs.pieces.in_room.Tie as tie
 

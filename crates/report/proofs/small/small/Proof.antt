@@ -1,4 +1,4 @@
-use Rattle.base.specs.If.{picks}
+use Rattle.base.proofs.Choice.{picks}
 use Rattle.report.specs.Small.{smallOf}
 use borrow.Author.Needs.{needs}
 use Rattle.report.proofs.small.small.Statement.{statement}

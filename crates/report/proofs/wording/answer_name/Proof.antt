@@ -1,5 +1,6 @@
 use Rattle.base.specs.If.{if_then_else_}
-use Rattle.base.specs.Table.{find, not-found}
+use Rattle.base.specs.Table.{find}
+use Rattle.base.proofs.Tables.{not-found}
 use Rattle.report.specs.AnswerText.{answerName, answerNames}
 use Rattle.report.specs.Name.{unknown}
 use Rattle.report.proofs.Puts.{put-as}

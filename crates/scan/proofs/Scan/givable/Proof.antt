@@ -1,7 +1,7 @@
 use mathlib.Core.Path.{sym, _∙_}
 use borrow.Author.Needs.{needs}
 use borrow.Author.Tests.{eq-eqb, ne-eqb}
-use Rattle.base.specs.If.{and-no, and-also}
+use Rattle.base.proofs.Choice.{and-no, and-also}
 use Rattle.scan.specs.Call.{givable}
 use Rattle.scan.proofs.Scan.givable.Statement.{statement}
 use Rattle.scan.proofs.Scan.givable.Tie as tie

@@ -1,6 +1,6 @@
 use mathlib.Core.Path.{refl, sym, ap₂, _∙_}
 use borrow.Author.Needs.{needs}
-use Rattle.base.specs.If.{if-yes, if-no}
+use Rattle.base.proofs.Choice.{if-yes, if-no}
 use Rattle.scan.specs.Call.{begunIf, beginOf}
 use Rattle.scan.proofs.Scan.new.Statement.{statement}
 use Rattle.scan.proofs.Scan.new.Tie as tie

@@ -1,7 +1,8 @@
 use mathlib.Core.Path.{_∙_}
 use borrow.Author.Needs.{needs}
 use Rattle.base.specs.If.{if_then_else_}
-use Rattle.base.specs.Table.{find, not-found}
+use Rattle.base.specs.Table.{find}
+use Rattle.base.proofs.Tables.{not-found}
 use Rattle.scan.specs.Answer.{pageAnswers, refusal}
 use Rattle.scan.proofs.Scan.refusal.Statement.{statement}
 use Rattle.scan.proofs.Scan.refusal.Tie as tie

@@ -1,6 +1,6 @@
 use mathlib.Core.Path.{refl, sym, _∙_}
 use borrow.Author.Needs.{needs}
-use Rattle.base.specs.If.{if-yes, if-no}
+use Rattle.base.proofs.Choice.{if-yes, if-no}
 use Rattle.scan.specs.Call.{runOf}
 use Rattle.scan.proofs.Ranged.{fit-of}
 use Rattle.scan.proofs.Scan.run.Statement.{statement}

@@ -1,7 +1,7 @@
 use mathlib.Core.Path.{sym}
 use borrow.Author.Needs.{needs}
 use borrow.Author.Tests.{eq-eqb, ne-eqb, le-leb, lt-leb, lt-ltb, le-ltb}
-use Rattle.base.specs.If.{and-no, and-also}
+use Rattle.base.proofs.Choice.{and-no, and-also}
 use Rattle.scan.specs.Call.{runnable}
 use Rattle.scan.proofs.Scan.runnable.Statement.{statement}
 use Rattle.scan.proofs.Scan.runnable.Tie as tie

@@ -1,8 +1,10 @@
 use mathlib.Core.Path.{refl, _∙_}
 use borrow.Author.Needs.{needs}
 use borrow.Author.Tests.{le-leb, lt-leb}
-use Rattle.base.specs.If.{if_then_else_, if-yes, if-no}
-use Rattle.base.specs.Table.{find, not-found}
+use Rattle.base.specs.If.{if_then_else_}
+use Rattle.base.proofs.Choice.{if-yes, if-no}
+use Rattle.base.specs.Table.{find}
+use Rattle.base.proofs.Tables.{not-found}
 use Rattle.scan.specs.Answer.{endAnswers, answerOf}
 use Rattle.scan.proofs.Scan.stands.Statement.{statement}
 use Rattle.scan.proofs.Scan.stands.Tie as tie

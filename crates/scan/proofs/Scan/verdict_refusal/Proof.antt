@@ -1,5 +1,6 @@
 use Rattle.base.specs.If.{if_then_else_}
-use Rattle.base.specs.Table.{find, not-found}
+use Rattle.base.specs.Table.{find}
+use Rattle.base.proofs.Tables.{not-found}
 use Rattle.scan.specs.Answer.{verdictAnswers, verdictRefusal}
 use Rattle.scan.proofs.Scan.verdict_refusal.Statement.{statement}
 use Rattle.scan.proofs.Scan.verdict_refusal.Tie as tie

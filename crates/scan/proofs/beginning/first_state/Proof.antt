@@ -1,4 +1,4 @@
-use Rattle.base.specs.If.{picks}
+use Rattle.base.proofs.Choice.{picks}
 use Rattle.scan.proofs.beginning.first_state.Statement.{statement}
 use Rattle.scan.proofs.beginning.first_state.Tie as tie
 

@@ -1,6 +1,6 @@
 use mathlib.Core.Path.{sym}
 use borrow.Author.Needs.{needs}
-use Rattle.base.specs.If.{picks}
+use Rattle.base.proofs.Choice.{picks}
 use Rattle.scan.proofs.beginning.numbers_listed.Statement.{statement}
 use Rattle.scan.proofs.beginning.numbers_listed.Tie as tie
 

@@ -3,7 +3,7 @@ use native.Mathlib.Omega.{arith}
 use mathlib.Core.Path.{refl}
 use borrow.Author.Needs.{needs}
 use borrow.Author.Tests.{lt-ltb, le-ltb}
-use Rattle.base.specs.If.{if-yes, if-no}
+use Rattle.base.proofs.Choice.{if-yes, if-no}
 use Rattle.scan.proofs.stepping.count_step.Statement.{statement}
 use Rattle.scan.proofs.stepping.count_step.Tie as tie
 

@@ -1,6 +1,6 @@
 use native.Mathlib.Omega.{arith}
 use mathlib.Core.Path.{sym}
-use Rattle.base.specs.Range.{is-within, below, above}
+use Rattle.base.proofs.Ranges.{is-within, below, above}
 use Rattle.scan.proofs.stepping.inside_a_name.Statement.{statement}
 use Rattle.scan.proofs.stepping.inside_a_name.Tie as tie
 

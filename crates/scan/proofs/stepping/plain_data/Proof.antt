@@ -1,4 +1,4 @@
-use Rattle.base.specs.If.{picks}
+use Rattle.base.proofs.Choice.{picks}
 use Rattle.scan.proofs.stepping.plain_data.Statement.{statement}
 use Rattle.scan.proofs.stepping.plain_data.Tie as tie
 

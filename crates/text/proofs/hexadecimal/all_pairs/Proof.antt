@@ -6,7 +6,7 @@ use mathlib.Core.Bool.{_&&_}
 use borrow.Author.Needs.{needs}
 use borrow.Author.Tests.{lt-ltb, le-ltb}
 use lib.ListN.{length, getD, drop}
-use Rattle.base.specs.If.{and-no, and-no′}
+use Rattle.base.proofs.Choice.{and-no, and-no′}
 use Rattle.text.specs.Hex.{hexValue, isHex, pairs}
 use Rattle.text.proofs.Pairs.{at-most-16, pairs-at, pairs-one, pairs-end}
 use Rattle.text.proofs.hexadecimal.all_pairs.Statement.{statement}

@@ -3,7 +3,7 @@ use native.Mathlib.Omega.{arith}
 use mathlib.Core.Path.{sym, _∙_}
 use borrow.Author.Needs.{needs}
 use borrow.Author.Tests.{not-true, not-false}
-use Rattle.base.specs.If.{picks}
+use Rattle.base.proofs.Choice.{picks}
 use Rattle.text.proofs.Decoding.{no-pairs, no-room, put}
 use Rattle.text.proofs.hexadecimal.decode_hex.Statement.{statement}
 use Rattle.text.proofs.hexadecimal.decode_hex.Tie as tie

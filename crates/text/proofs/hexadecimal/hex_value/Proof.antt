@@ -4,8 +4,10 @@ use native.Mathlib.Omega.{arith}
 use mathlib.Core.Path.{refl}
 use borrow.Author.Needs.{needs}
 use Rattle.base.specs.Byte.{digit0, digit9, smallA}
-use Rattle.base.specs.If.{if_then_else_, if-yes, if-no}
-use Rattle.base.specs.Range.{within, is-within, below, above}
+use Rattle.base.specs.If.{if_then_else_}
+use Rattle.base.proofs.Choice.{if-yes, if-no}
+use Rattle.base.specs.Range.{within}
+use Rattle.base.proofs.Ranges.{is-within, below, above}
 use Rattle.text.specs.Hex.{smallF, hexValue}
 use Rattle.text.proofs.hexadecimal.hex_value.Statement.{statement}
 use Rattle.text.proofs.hexadecimal.hex_value.Tie as tie

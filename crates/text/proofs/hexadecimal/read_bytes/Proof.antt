@@ -1,4 +1,4 @@
-use Rattle.base.specs.If.{picks}
+use Rattle.base.proofs.Choice.{picks}
 use borrow.Author.Needs.{needs}
 use Rattle.text.proofs.hexadecimal.read_bytes.Statement.{statement}
 use Rattle.text.proofs.hexadecimal.read_bytes.Tie as tie

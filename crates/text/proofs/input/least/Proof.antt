@@ -1,5 +1,5 @@
 use native.Mathlib.Omega.{arith}
-use Rattle.base.specs.If.{picks}
+use Rattle.base.proofs.Choice.{picks}
 use Rattle.text.specs.Input.{leastOf}
 use Rattle.text.proofs.input.least.Statement.{statement}
 use Rattle.text.proofs.input.least.Tie as tie

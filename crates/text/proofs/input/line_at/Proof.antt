@@ -1,5 +1,5 @@
 use mathlib.Core.Path.{refl}
-use Rattle.base.specs.If.{picks}
+use Rattle.base.proofs.Choice.{picks}
 use Rattle.text.specs.Input.{lineOf}
 use borrow.Author.Needs.{needs}
 use Rattle.text.proofs.input.line_at.Statement.{statement}

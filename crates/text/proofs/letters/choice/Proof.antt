@@ -1,4 +1,4 @@
-use Rattle.base.specs.If.{picks}
+use Rattle.base.proofs.Choice.{picks}
 use Rattle.text.specs.Letters.{choiceOf}
 use Rattle.text.proofs.letters.choice.Statement.{statement}
 use Rattle.text.proofs.letters.choice.Tie as tie

@@ -1,4 +1,4 @@
-use Rattle.base.specs.If.{picks}
+use Rattle.base.proofs.Choice.{picks}
 use Rattle.text.specs.Letters.{constructOf}
 use Rattle.text.proofs.letters.construct_of.Statement.{statement}
 use Rattle.text.proofs.letters.construct_of.Tie as tie

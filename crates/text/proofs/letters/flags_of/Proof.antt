@@ -1,4 +1,4 @@
-use Rattle.base.specs.If.{picks}
+use Rattle.base.proofs.Choice.{picks}
 use Rattle.text.specs.Letters.{flagsOf}
 use Rattle.text.proofs.letters.flags_of.Statement.{statement}
 use Rattle.text.proofs.letters.flags_of.Tie as tie

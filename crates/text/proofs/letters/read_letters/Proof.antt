@@ -1,4 +1,4 @@
-use Rattle.base.specs.If.{picks}
+use Rattle.base.proofs.Choice.{picks}
 use borrow.Author.Needs.{needs}
 use Rattle.text.proofs.letters.read_letters.Statement.{statement}
 use Rattle.text.proofs.letters.read_letters.Tie as tie

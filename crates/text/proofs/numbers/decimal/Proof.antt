@@ -1,5 +1,5 @@
 -- The part is handed on where it lies in the line.
-use Rattle.base.specs.If.{picks}
+use Rattle.base.proofs.Choice.{picks}
 use borrow.Author.Needs.{needs}
 use Rattle.text.proofs.numbers.decimal.Statement.{statement}
 use Rattle.text.proofs.numbers.decimal.Tie as tie

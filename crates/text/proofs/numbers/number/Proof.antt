@@ -6,8 +6,9 @@ use mathlib.Core.Bool.{true}
 use lib.Dec.{lit<}
 use lib.ListN.{length, getD, drop, drop-of-length-le}
 use Rattle.base.specs.Byte.{digit0, digit9}
-use Rattle.base.specs.If.{picks, and-no}
-use Rattle.base.specs.Range.{within, is-within, below, above}
+use Rattle.base.proofs.Choice.{picks, and-no}
+use Rattle.base.specs.Range.{within}
+use Rattle.base.proofs.Ranges.{is-within, below, above}
 use Rattle.text.specs.Decimal.{allDigits, valueFrom}
 use Rattle.text.proofs.Digits.{digits-at, value-at, grows, ten-digits}
 use Rattle.text.proofs.numbers.number.Statement.{statement}

@@ -5,7 +5,7 @@ use mathlib.Core.Path.{_≡_, refl}
 use borrow.Author.Tests.{lt-ltb, le-ltb}
 use lib.Dec.{ltb}
 use lib.ListN.{length, drop}
-use Rattle.base.specs.If.{if-yes, if-no}
+use Rattle.base.proofs.Choice.{if-yes, if-no}
 use Rattle.text.specs.Find.{before}
 use Rattle.text.proofs.Lines.{found-here, passed-here, found-nowhere}
 use Rattle.text.proofs.places.find.Statement.{statement}

@@ -1,4 +1,4 @@
-use Rattle.base.specs.If.{picks}
+use Rattle.base.proofs.Choice.{picks}
 use Rattle.text.specs.Verdict.{fineOf}
 use Rattle.text.proofs.verdicts.fine.Statement.{statement}
 use Rattle.text.proofs.verdicts.fine.Tie as tie

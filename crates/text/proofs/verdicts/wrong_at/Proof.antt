@@ -1,4 +1,4 @@
-use Rattle.base.specs.If.{picks}
+use Rattle.base.proofs.Choice.{picks}
 use Rattle.text.specs.Verdict.{wrongAtOf}
 use borrow.Author.Needs.{needs}
 use Rattle.text.proofs.verdicts.wrong_at.Statement.{statement}

@@ -5,7 +5,7 @@ use mathlib.Core.Path.{_≡_, refl, sym, _∙_}
 use borrow.Author.Tests.{eq-eqb, ne-eqb}
 use lib.Dec.{eqb}
 use lib.ListN.{length, getD, drop}
-use Rattle.base.specs.If.{and-no}
+use Rattle.base.proofs.Choice.{and-no}
 use Rattle.text.specs.Word.{same}
 use Rattle.text.proofs.Same.{same-at, same-past, same-end}
 use Rattle.text.proofs.words.equal.Statement.{statement}

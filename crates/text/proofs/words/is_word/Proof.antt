@@ -1,5 +1,5 @@
 -- The part is compared where it lies in the line.
-use Rattle.base.specs.If.{picks}
+use Rattle.base.proofs.Choice.{picks}
 use borrow.Author.Needs.{needs}
 use Rattle.text.proofs.words.is_word.Statement.{statement}
 use Rattle.text.proofs.words.is_word.Tie as tie

@@ -1,6 +1,6 @@
 use mathlib.Core.Path.{sym}
 use borrow.Author.Needs.{needs}
-use Rattle.base.specs.If.{picks}
+use Rattle.base.proofs.Choice.{picks}
 use Rattle.tokenizer.specs.Ranges.{jobInRange}
 use Rattle.tokenizer.proofs.Job.in_range.Statement.{statement}
 use Rattle.tokenizer.proofs.Job.in_range.Tie as tie

@@ -1,6 +1,6 @@
 use mathlib.Core.Path.{sym, _∙_}
 use borrow.Author.Needs.{needs}
-use Rattle.base.specs.If.{and-no, and-also}
+use Rattle.base.proofs.Choice.{and-no, and-also}
 use Rattle.tokenizer.specs.Ranges.{regsInRange}
 use Rattle.tokenizer.proofs.Regs.in_range.Statement.{statement}
 use Rattle.tokenizer.proofs.Regs.in_range.Tie as tie

@@ -1,5 +1,5 @@
 use mathlib.Core.Path.{sym}
-use Rattle.base.specs.If.{picks}
+use Rattle.base.proofs.Choice.{picks}
 use Rattle.tokenizer.specs.Ranges.{numbersInRange}
 use Rattle.tokenizer.proofs.Regs.numbers_in_range.Statement.{statement}
 use Rattle.tokenizer.proofs.Regs.numbers_in_range.Tie as tie

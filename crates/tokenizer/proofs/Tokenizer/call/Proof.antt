@@ -1,5 +1,5 @@
 use borrow.Author.Needs.{needs}
-use Rattle.base.specs.If.{picks}
+use Rattle.base.proofs.Choice.{picks}
 use Rattle.tokenizer.specs.Decision.{decision}
 use Rattle.tokenizer.proofs.Tokenizer.call.Statement.{statement}
 use Rattle.tokenizer.proofs.Tokenizer.call.Tie as tie

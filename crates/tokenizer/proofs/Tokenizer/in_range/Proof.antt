@@ -1,7 +1,7 @@
 use mathlib.Core.Path.{sym, _∙_}
 use borrow.Author.Needs.{needs}
 use borrow.Author.Tests.{le-leb, lt-leb}
-use Rattle.base.specs.If.{and-no, and-also}
+use Rattle.base.proofs.Choice.{and-no, and-also}
 use Rattle.tokenizer.specs.Ranges.{inRange}
 use Rattle.tokenizer.proofs.Tokenizer.in_range.Statement.{statement}
 use Rattle.tokenizer.proofs.Tokenizer.in_range.Tie as tie

@@ -1,8 +1,8 @@
 use native.Mathlib.Omega.{arith}
 use mathlib.Core.Logic.{⊎-elim}
 use borrow.Author.Needs.{needs}
-use Rattle.base.specs.If.{if-yes, if-no}
-use Rattle.base.specs.Range.{is-within, below, above}
+use Rattle.base.proofs.Choice.{if-yes, if-no}
+use Rattle.base.proofs.Ranges.{is-within, below, above}
 use Rattle.tokenizer.specs.Decision.{stateDecision}
 use Rattle.tokenizer.proofs.Tokenizer.state_decision.Statement.{statement}
 use Rattle.tokenizer.proofs.Tokenizer.state_decision.Tie as tie

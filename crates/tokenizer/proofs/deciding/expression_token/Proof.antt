@@ -1,4 +1,4 @@
-use Rattle.base.specs.If.{picks}
+use Rattle.base.proofs.Choice.{picks}
 use Rattle.tokenizer.proofs.deciding.expression_token.Statement.{statement}
 use Rattle.tokenizer.proofs.deciding.expression_token.Tie as tie
 

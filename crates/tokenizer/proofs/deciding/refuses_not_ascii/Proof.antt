@@ -1,4 +1,4 @@
-use Rattle.base.specs.If.{picks}
+use Rattle.base.proofs.Choice.{picks}
 use borrow.Author.Needs.{needs}
 use Rattle.tokenizer.proofs.deciding.refuses_not_ascii.Statement.{statement}
 use Rattle.tokenizer.proofs.deciding.refuses_not_ascii.Tie as tie

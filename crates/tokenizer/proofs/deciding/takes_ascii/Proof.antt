@@ -1,6 +1,6 @@
 use native.Mathlib.Omega.{arith}
 use mathlib.Core.Path.{sym}
-use Rattle.base.specs.Range.{is-within, below, above}
+use Rattle.base.proofs.Ranges.{is-within, below, above}
 use Rattle.tokenizer.proofs.deciding.takes_ascii.Statement.{statement}
 use Rattle.tokenizer.proofs.deciding.takes_ascii.Tie as tie
 

@@ -1,4 +1,4 @@
-use Rattle.base.specs.If.{picks}
+use Rattle.base.proofs.Choice.{picks}
 use Rattle.tokenizer.proofs.moving.first_joint.Statement.{statement}
 use Rattle.tokenizer.proofs.moving.first_joint.Tie as tie
 

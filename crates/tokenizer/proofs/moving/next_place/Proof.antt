@@ -1,4 +1,4 @@
-use Rattle.base.specs.If.{picks}
+use Rattle.base.proofs.Choice.{picks}
 use borrow.Author.Needs.{needs}
 use Rattle.tokenizer.proofs.moving.next_place.Statement.{statement}
 use Rattle.tokenizer.proofs.moving.next_place.Tie as tie

@@ -1,4 +1,4 @@
-use Rattle.base.specs.If.{picks}
+use Rattle.base.proofs.Choice.{picks}
 use borrow.Author.Needs.{needs}
 use Rattle.tokenizer.proofs.moving.one_deeper.Statement.{statement}
 use Rattle.tokenizer.proofs.moving.one_deeper.Tie as tie

@@ -1,7 +1,8 @@
 use native.Mathlib.Omega.{arith}
 use mathlib.Core.Path.{sym}
-use Rattle.base.specs.If.{or-yes, or-yes′, or-no}
-use Rattle.base.specs.Range.{within, is-within, below, above}
+use Rattle.base.proofs.Choice.{or-yes, or-yes′, or-no}
+use Rattle.base.specs.Range.{within}
+use Rattle.base.proofs.Ranges.{is-within, below, above}
 use Rattle.tokenizer.specs.Ranges.{isAnswer}
 use Rattle.tokenizer.proofs.ranges.is_answer.Statement.{statement}
 use Rattle.tokenizer.proofs.ranges.is_answer.Tie as tie

@@ -1,8 +1,8 @@
 use native.Mathlib.Omega.{arith}
 use mathlib.Core.Path.{sym}
 use borrow.Author.Tests.{eq-eqb, ne-eqb}
-use Rattle.base.specs.If.{or-yes, or-else}
-use Rattle.base.specs.Range.{is-within, below, above}
+use Rattle.base.proofs.Choice.{or-yes, or-else}
+use Rattle.base.proofs.Ranges.{is-within, below, above}
 use Rattle.tokenizer.specs.Ranges.{isReturn}
 use Rattle.tokenizer.proofs.ranges.is_return.Statement.{statement}
 use Rattle.tokenizer.proofs.ranges.is_return.Tie as tie

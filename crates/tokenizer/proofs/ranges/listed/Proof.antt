@@ -1,6 +1,6 @@
 use mathlib.Core.Path.{sym}
 use borrow.Author.Needs.{needs}
-use Rattle.base.specs.If.{picks}
+use Rattle.base.proofs.Choice.{picks}
 use Rattle.tokenizer.specs.Ranges.{listed}
 use Rattle.tokenizer.proofs.ranges.listed.Statement.{statement}
 use Rattle.tokenizer.proofs.ranges.listed.Tie as tie

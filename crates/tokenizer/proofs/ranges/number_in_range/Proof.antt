@@ -1,6 +1,6 @@
 use native.Mathlib.Omega.{arith}
 use mathlib.Core.Path.{sym}
-use Rattle.base.specs.Range.{is-within, below, above}
+use Rattle.base.proofs.Ranges.{is-within, below, above}
 use Rattle.tokenizer.proofs.ranges.number_in_range.Statement.{statement}
 use Rattle.tokenizer.proofs.ranges.number_in_range.Tie as tie
 

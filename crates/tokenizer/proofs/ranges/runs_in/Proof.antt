@@ -1,8 +1,8 @@
 use native.Mathlib.Omega.{arith}
 use mathlib.Core.Path.{sym}
 use borrow.Author.Tests.{eq-eqb, ne-eqb}
-use Rattle.base.specs.If.{if-yes, if-no}
-use Rattle.base.specs.Range.{is-within, below, above}
+use Rattle.base.proofs.Choice.{if-yes, if-no}
+use Rattle.base.proofs.Ranges.{is-within, below, above}
 use Rattle.tokenizer.specs.Ranges.{runsIn}
 use Rattle.tokenizer.proofs.ranges.runs_in.Statement.{statement}
 use Rattle.tokenizer.proofs.ranges.runs_in.Tie as tie

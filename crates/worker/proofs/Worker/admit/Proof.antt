@@ -1,7 +1,7 @@
 use mathlib.Core.Path.{sym, ap, _∙_}
 use borrow.Author.Needs.{needs}
 use Prim.Native.Nat.{ℕ}
-use Rattle.base.specs.If.{not-yes}
+use Rattle.base.proofs.Choice.{not-yes}
 use Rattle.scan.specs.Call.{beginOf}
 use Rattle.worker.proofs.Laws.{not-no, admit-unlisted, admit-forged, admit-full, admit-placed}
 use Rattle.worker.proofs.Worker.admit.Statement.{statement}

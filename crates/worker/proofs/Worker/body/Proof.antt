@@ -3,7 +3,7 @@ use native.Mathlib.Omega.{arith}
 use mathlib.Core.Path.{sym, _∙_}
 use borrow.Author.Needs.{needs}
 use lib.ListN.{length}
-use Rattle.base.specs.If.{not-yes}
+use Rattle.base.proofs.Choice.{not-yes}
 use Rattle.worker.specs.Place.{placeIn}
 use Rattle.worker.proofs.Laws.{not-no, page-place, page-lies, body-none, body-read}
 use Rattle.worker.proofs.Worker.body.Statement.{statement}

@@ -1,7 +1,7 @@
 use mathlib.Core.Path.{sym, ap, _∙_}
 use Prim.Native.Nat.{ℕ}
 use borrow.Author.Needs.{needs}
-use Rattle.base.specs.If.{not-yes, and-no, and-also}
+use Rattle.base.proofs.Choice.{not-yes, and-no, and-also}
 use Rattle.worker.specs.Place.{placeIn, placeInRange}
 use Rattle.worker.proofs.Laws.{not-no, holds-far, holds-forged, holds-by}
 use Rattle.worker.proofs.Worker.holds.Statement.{statement}

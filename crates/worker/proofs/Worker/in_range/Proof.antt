@@ -1,6 +1,6 @@
 use mathlib.Core.Path.{sym}
 use borrow.Author.Tests.{le-leb, lt-leb, lt-ltb, le-ltb}
-use Rattle.base.specs.If.{and-no, and-also}
+use Rattle.base.proofs.Choice.{and-no, and-also}
 use Rattle.worker.specs.Place.{workerInRange}
 use Rattle.worker.proofs.Worker.in_range.Statement.{statement}
 use Rattle.worker.proofs.Worker.in_range.Tie as tie

@@ -1,7 +1,7 @@
 use mathlib.Core.Path.{sym, _∙_}
 use lib.ListN.{length}
 use borrow.Author.Needs.{needs}
-use Rattle.base.specs.If.{not-yes, both}
+use Rattle.base.proofs.Choice.{not-yes, both}
 use Rattle.worker.specs.Place.{placeIn}
 use Rattle.worker.specs.Worker.{liesIn}
 use Rattle.worker.proofs.Laws.{not-no, in-ring, lies, turn-length, turn-forged, turn-idle, turn-unready, turn-served}

@@ -2,7 +2,7 @@ use native.Mathlib.Omega.{arith}
 use mathlib.Core.Path.{sym, ap, _∙_}
 use mathlib.Core.List.{[]}
 use borrow.Author.Needs.{needs}
-use Rattle.base.specs.If.{not-yes}
+use Rattle.base.proofs.Choice.{not-yes}
 use Rattle.scan.specs.Answer.{saidBy}
 use Rattle.worker.specs.declared.Worker.{Worker}
 use Rattle.worker.specs.Reply.{left}

@@ -1,5 +1,5 @@
 use mathlib.Core.Path.{sym, refl}
-use Rattle.base.specs.If.{and-no, and-also}
+use Rattle.base.proofs.Choice.{and-no, and-also}
 use Rattle.worker.proofs.places.is_running.Statement.{statement}
 use Rattle.worker.proofs.places.is_running.Tie as tie
 

@@ -1,7 +1,7 @@
 use mathlib.Core.Path.{sym}
 use borrow.Author.Needs.{needs}
 use borrow.Author.Tests.{eq-eqb, ne-eqb}
-use Rattle.base.specs.If.{and-no, and-also}
+use Rattle.base.proofs.Choice.{and-no, and-also}
 use Rattle.worker.specs.Place.{placeInRange}
 use Rattle.worker.proofs.places.place_in_range.Statement.{statement}
 use Rattle.worker.proofs.places.place_in_range.Tie as tie

@@ -1,6 +1,6 @@
 use mathlib.Core.Path.{sym, _∙_}
 use borrow.Author.Needs.{needs}
-use Rattle.base.specs.If.{and-no, and-also}
+use Rattle.base.proofs.Choice.{and-no, and-also}
 use Rattle.worker.proofs.turning.is_ready.Statement.{statement}
 use Rattle.worker.proofs.turning.is_ready.Tie as tie
 
