@@ -1,5 +1,5 @@
--- Demand 3 says something: two pages, of which the first asks, is told and ends, computed from the definitions. The bytes of the pages
--- move between the calls that read the second only, and a turn over another buffer comes between.
+-- One history, computed from the definitions: two pages, of which the first asks, is told and ends. A turn over no buffer comes between,
+-- and is refused. That the history meets the premises of Demand 3 is not proved here.
 use Prim.Native.Nat.{ℕ}
 use mathlib.Core.Path.{_≡_, refl}
 use mathlib.Core.List.{List, [], _∷_}
