@@ -1,6 +1,6 @@
 -- Every state that a call gives is in range: docs/NUMBERS.md lists the ranges, and `scanInRange` is their test. A refused call gives back
 -- the state that it was handed.
-use Prim.Native.Nat.{ℕ, zero, suc, _+_, _-_, _≤_}
+use Prim.Native.Nat.{ℕ, _+_, _-_, _≤_}
 use native.Mathlib.Omega.{arith}
 use mathlib.Core.Path.{_≡_, refl}
 use mathlib.Core.Bool.{true, false}

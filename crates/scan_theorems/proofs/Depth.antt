@@ -1,15 +1,15 @@
 -- The limit of the depth is never met: a scan that began on its page has no more braces open than it has passed bytes, so that one brace
 -- more is counted (docs/DECISIONS.md, 21).
-use Prim.Native.Nat.{ℕ, zero, suc, _+_, _-_, _≤_, _<_}
+use Prim.Native.Nat.{ℕ, _+_, _-_, _≤_}
 use native.Mathlib.Omega.{arith}
 use mathlib.Core.Path.{_≡_, refl, ap, _∙_}
 use mathlib.Core.Bool.{Bool, true, false, _&&_}
-use mathlib.Core.List.{List, [], _∷_}
+use mathlib.Core.List.{List}
 use lib.Dec.{leb, ltb, eqb}
 use lib.ListN.{length}
 use borrow.Author.Tests.{lt-ltb, leb-true}
 use Rattle.base.specs.If.{if_then_else_}
-use Rattle.base.proofs.Choice.{if-is, case, both}
+use Rattle.base.proofs.Choice.{if-is, both}
 use Rattle.base.specs.Byte.{leftBrace}
 use Rattle.base.specs.Page.{byteAt, pageLimit}
 use Rattle.base.specs.State as state

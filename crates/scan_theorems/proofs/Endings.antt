@@ -2,22 +2,19 @@
 -- decision that ends it so writes no event.
 use Prim.Native.Nat.{ℕ, _≤_}
 use native.Mathlib.Omega.{arith}
-use mathlib.Core.Path.{_≡_, refl, sym, ap, _∙_}
+use mathlib.Core.Path.{_≡_, refl}
 use mathlib.Core.Bool.{Bool, true, false, not, _&&_, _||_}
 use mathlib.Core.List.{List}
 use lib.Dec.{ltb, eqb}
 use borrow.Author.Tests.{ne-eqb, eqb-true}
 use Rattle.base.specs.Byte.{lineFeed, endOfPage}
-use Rattle.base.specs.If.{if_then_else_, among}
+use Rattle.base.specs.If.{if_then_else_}
 use Rattle.base.proofs.Choice.{if-is, case, and-no, or-no, or-cases}
 use Rattle.base.specs.Range.{within}
 use Rattle.base.proofs.Ranges.{within-is}
 use Rattle.base.specs.Table.{find}
 use Rattle.base.specs.State as state
-use Rattle.base.specs.Decide.{countOf, retry}
-use Rattle.base.specs.declared.Marks.{Marks}
-use Rattle.base.specs.declared.Marks.the-variants.{Nothing}
-use Rattle.base.specs.declared.Effect.{Effect}
+use Rattle.base.specs.Decide.{countOf}
 use Rattle.base.specs.declared.Move.{Move}
 use Rattle.base.specs.declared.Verdict.{Verdict}
 use Rattle.base.specs.declared.Verdict.the-variants.{Fine, Unfinished, Wrong}
@@ -28,7 +25,6 @@ use Rattle.tokenizer.specs.Decision.{expressionStates, tagStates, attributeStat
 use Rattle.tokenizer.specs.Ranges.{isReturn}
 use Rattle.tokenizer.specs.declared.Tokenizer.{Tokenizer}
 use Rattle.scan_theorems.specs.Rows.{endMet, wayOn}
-use Rattle.scan_theorems.proofs.Tests.{clash}
 use Rattle.scan_theorems.proofs.EveryState.{_&_, Each, ofTags, ofEsm, tag-state-decides, esm-state-decides}
 
 -- it ends the scan with 6 or 7, and writes events

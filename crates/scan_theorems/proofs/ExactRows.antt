@@ -8,10 +8,10 @@ use mathlib.Core.Bool.{Bool, true, false, not, _&&_, _||_}
 use mathlib.Core.List.{List}
 use lib.Dec.{ltb, eqb}
 use lib.ListN.{length}
-use borrow.Author.Tests.{ltb-true, ltb-false, lt-ltb, le-ltb, ne-eqb}
+use borrow.Author.Tests.{ltb-true, lt-ltb, le-ltb, ne-eqb}
 use Rattle.base.specs.Byte.{endOfPage}
 use Rattle.base.specs.If.{if_then_else_, among}
-use Rattle.base.proofs.Choice.{if-is, case, both, and-no, and-no′, and-yes, or-left, or-right}
+use Rattle.base.proofs.Choice.{case, both, and-no, and-no′, or-left, or-right}
 use Rattle.base.specs.Range.{within}
 use Rattle.base.proofs.Ranges.{within-is, is-within}
 use Rattle.base.specs.Table.{find}
@@ -26,15 +26,14 @@ use Rattle.events.proofs.Laws.{count-is}
 use Rattle.tokenizer.specs.Decision.{refusesNotAscii, notAscii, takesAscii, stateDecision, decision}
 use Rattle.tokenizer.specs.Moved.{moved}
 use Rattle.tokenizer.specs.Ranges.{esm, inRange}
-use Rattle.tokenizer.specs.declared.Tokenizer.{Tokenizer}
 use Rattle.scan.specs.declared.Scan.{Scan}
 use Rattle.scan.specs.Scan.{choice, lacks, carriedOut, stepScan}
 use Rattle.scan.specs.Call.{scanInRange}
-use Rattle.scan_theorems.specs.Rows.{tagState, takesAnyByte, notAsciiMet, endMet, waysOn, wayOn, noWayMet, tooManyEvents, RowsOf}
+use Rattle.scan_theorems.specs.Rows.{tagState, takesAnyByte, notAsciiMet, endMet, wayOn, tooManyEvents, RowsOf}
 use Rattle.scan_theorems.specs.Statement.{ExactRows}
 use Rattle.scan_theorems.proofs.Tests.{clash}
-use Rattle.scan_theorems.proofs.EveryState.{_&_, found, all, all-hold, ofTags, ofEsm}
-use Rattle.scan_theorems.proofs.Endings.{Ending, ending, loud, tag-state-ends, esm-state-ends}
+use Rattle.scan_theorems.proofs.EveryState.{_&_, found, all, all-hold}
+use Rattle.scan_theorems.proofs.Endings.{Ending, ending, tag-state-ends, esm-state-ends}
 use Rattle.scan_theorems.proofs.Parts.{parts, low, high}
 
 -- ---- what the tables say of the states' numbers

@@ -1,6 +1,6 @@
 -- Every step of a scan is counted, and a scan of n bytes makes at most 8(n+1) of them. And the two inductions that every promise on scans
 -- uses: what each step keeps, a run keeps; what runs and verdicts keep, a whole scan keeps.
-use Prim.Native.Nat.{ℕ, zero, suc, _+_, _-_, _*_, _≤_}
+use Prim.Native.Nat.{ℕ, zero, suc, _+_, _-_, _≤_}
 use native.Mathlib.Omega.{arith}
 use mathlib.Core.Path.{_≡_, refl, sym, ap, _∙_}
 use mathlib.Core.Bool.{true, false}

@@ -3,13 +3,13 @@
 use Prim.Native.Nat.{ℕ, _≤_}
 use native.Mathlib.Omega.{arith}
 use mathlib.Core.Path.{_≡_, refl, sym, ap, _∙_}
-use mathlib.Core.Bool.{Bool, true, false, not, _&&_, _||_}
+use mathlib.Core.Bool.{Bool, true, false, not, _||_}
 use mathlib.Core.List.{List}
-use lib.Dec.{leb, ltb, eqb}
+use lib.Dec.{leb, eqb}
 use borrow.Author.Tests.{ne-eqb, eq-eqb, eqb-true, leb-true}
 use Rattle.base.specs.Byte.{greaterThan}
 use Rattle.base.specs.If.{if_then_else_}
-use Rattle.base.proofs.Choice.{if-is, case, or-cases, or-no, or-yes, both}
+use Rattle.base.proofs.Choice.{if-is, case, or-cases, or-no, or-yes}
 use Rattle.base.proofs.Ranges.{within-is}
 use Rattle.base.specs.Page.{byteAt}
 use Rattle.base.specs.State as state
@@ -24,7 +24,7 @@ use Rattle.mdx_expression.specs.Expression as expression
 use Rattle.mdx_jsx.specs.Jsx as jsx
 use Rattle.mdx_esm.specs.Esm as esm
 use Rattle.tokenizer.specs.Decision.{tagToken, expressionStates, tagStates, attributeStates, esmStates, decision}
-use Rattle.tokenizer.specs.Moved.{nextPlace, placeAfter, changed, moved}
+use Rattle.tokenizer.specs.Moved.{nextPlace, changed, moved}
 use Rattle.tokenizer.specs.Ranges.{isReturn}
 use Rattle.tokenizer.specs.declared.Regs.{Regs}
 use Rattle.tokenizer.specs.declared.Tokenizer.{Tokenizer}

@@ -1,32 +1,28 @@
 -- A scan from its start answers 0, 1, 5 to 10, Asking or Paused, and never with where-number 0.
 use Prim.Native.Nat.{ℕ, _≤_, _<_}
 use native.Mathlib.Omega.{arith}
-use mathlib.Core.Path.{_≡_, refl, sym, ap, _∙_}
+use mathlib.Core.Path.{_≡_, refl}
 use mathlib.Core.Bool.{Bool, true, false, not, _||_}
 use mathlib.Core.List.{List, [], _∷_}
 use lib.Dec.{leb, eqb}
-use borrow.Author.Tests.{leb-false, ltb-false, eq-eqb, ne-eqb}
+use borrow.Author.Tests.{leb-false, eq-eqb}
 use Rattle.base.specs.If.{if_then_else_, among}
 use Rattle.base.proofs.Choice.{if-is, case, or-cases}
 use Rattle.base.specs.Range.{within}
-use Rattle.base.proofs.Ranges.{within-is, above}
-use Rattle.base.specs.Table.{find}
-use Rattle.base.specs.Page.{byteAt}
+use Rattle.base.proofs.Ranges.{within-is}
 use Rattle.base.specs.State as state
 use Rattle.base.specs.State.{rests}
-use Rattle.base.specs.Decide.{retry}
-use Rattle.base.specs.declared.Marks.the-variants.{Nothing}
 use Rattle.base.specs.declared.Move.{Move}
 use Rattle.base.specs.declared.Verdict.{Verdict}
 use Rattle.tokenizer.specs.declared.Job.{Job}
 use Rattle.tokenizer.specs.Moved.{moved}
 use Rattle.tokenizer.specs.Ranges.{tag, esm, isAnswer, runsIn, listed}
 use Rattle.scan.specs.declared.Scan.{Scan}
-use Rattle.scan.specs.Answer.{Said, endAnswers, pageAnswers, verdictAnswers, refused, verdictRefusal, refusal, answerOf}
-use Rattle.scan.specs.Scan.{choice, lacks, carriedOut, stepScan}
+use Rattle.scan.specs.Answer.{Said, endAnswers, pageAnswers, verdictAnswers, verdictRefusal, refusal, answerOf}
+use Rattle.scan.specs.Scan.{choice, lacks, stepScan}
 use Rattle.scan.specs.Call.{givenScan, freshScan}
 use Rattle.scan.specs.Alone.{runAlone}
-use Rattle.scan_theorems.specs.Statement.{Heard, answersOfScans, whereOf, ByTheTable}
+use Rattle.scan_theorems.specs.Statement.{answersOfScans, whereOf, ByTheTable}
 use Rattle.scan_theorems.proofs.Tests.{clash}
 use Rattle.scan_theorems.proofs.EveryState.{_&_, found-or, all, all-hold}
 use Rattle.scan_theorems.proofs.Parts.{parts, low, high}

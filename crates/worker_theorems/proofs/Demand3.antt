@@ -1,5 +1,5 @@
 -- Demand 3, proved: a page that was admitted stands where Fair.antt says, and so the promise holds of it.
-use Prim.Native.Nat.{ℕ, _≤_, _<_}
+use Prim.Native.Nat.{ℕ, _<_}
 use native.Mathlib.Omega.{arith}
 use native.Mathlib.Nat.{mul-zero, zero-add}
 use native.Mathlib.Decide.{ℕ-discrete}
@@ -12,7 +12,6 @@ use lib.Seq.{getD-set-same, length-take-le}
 use lib.Dec.{leb}
 use borrow.Author.Tests.{lt-ltb, leb-false}
 use Rattle.base.specs.If.{among}
-use Rattle.base.proofs.Choice.{and-yes}
 use Rattle.base.specs.Number as number
 use Rattle.base.specs.State.{asking}
 use Rattle.base.specs.declared.Verdict.{Verdict}
@@ -30,9 +29,8 @@ use Rattle.worker.specs.declared.Place.{Place}
 use Rattle.worker.specs.Place.{placeOf, beyond, placeIn, running, stateOf}
 use Rattle.worker.specs.Reply.{Left}
 use Rattle.worker.specs.Ring.{after}
-use Rattle.worker.specs.Worker.{startOf, collectCall}
 use Rattle.worker.proofs.Laws.{collect-gives}
-use Rattle.worker_theorems.specs.Calls.{Page, Ask, admit, collect, State, answer, next, afterCalls, placeAt, eventsOf}
+use Rattle.worker_theorems.specs.Calls.{Page, admit, collect, State, answer, next, afterCalls, placeAt, eventsOf}
 use Rattle.worker_theorems.specs.Demand3.{verdictsTo, turnsWhile, bound, textOf, scanAlone, listAlone, Promise, begun, Demand3}
 use Rattle.worker_theorems.specs.Ranges.{refuses}
 use Rattle.worker_theorems.proofs.Fair.{Good, At, Here, is-held, reads-events, stays-good, good-calls, by-calls, soon-of}

@@ -24,7 +24,7 @@ use Rattle.scan.specs.Call.{scanInRange, runnable, runOf, givable, givenScan, g
 use Rattle.worker.specs.Place.{stateOf, placeInRange, workerInRange, holds}
 use Rattle.worker.specs.Ring.{seek}
 use Rattle.worker.specs.Worker.{startOf, admitOf, verdictOf, collectCall, servedAt, turnAt, turnOf}
-use Rattle.worker_theorems.specs.Calls.{Page, Ask, admit, verdict, aTurn, collect, State, next, answer, afterCalls, placeAt}
+use Rattle.worker_theorems.specs.Calls.{Page, Ask, admit, verdict, aTurn, collect, State, next, answer, placeAt}
 use Rattle.worker_theorems.specs.Demand3.{begun}
 
 -- {a}<a>

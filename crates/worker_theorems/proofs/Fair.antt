@@ -30,17 +30,17 @@ use Rattle.scan.specs.Answer.{said}
 use Rattle.scan.specs.Scan.{stepBound, runScan, runEvents, runWords}
 use Rattle.scan.specs.Call.{givable, givenScan, jobOf, freshScan}
 use Rattle.scan.proofs.Pausing.{events-are-counted}
-use Rattle.scan_theorems.proofs.Scans.{Within, within-run, run-ends, within-given, within-range, job-kept}
+use Rattle.scan_theorems.proofs.Scans.{Within, within-run, run-ends, within-given, job-kept}
 use Rattle.scan_theorems.proofs.Left as steps
 use Rattle.worker.specs.declared.Place.{Place}
 use Rattle.worker.specs.declared.Worker.{Worker}
-use Rattle.worker.specs.Place.{placeOf, freePlace, beyond, placeIn, running, ended, stateOf, nextIn, placeInRange, holds}
+use Rattle.worker.specs.Place.{placeOf, freePlace, beyond, placeIn, running, stateOf, nextIn, placeInRange, holds}
 use Rattle.worker.specs.Reply.{Left, left, refusing}
 use Rattle.worker.specs.Ring.{after}
-use Rattle.worker.specs.Worker.{pageIn, liesIn, bodyCall, shareAt, eventsAt}
-use Rattle.worker.proofs.Laws.{held, held-scan, holds-by, share-near, events-held, turn-length}
+use Rattle.worker.specs.Worker.{pageIn, bodyCall, shareAt, eventsAt}
+use Rattle.worker.proofs.Laws.{held, held-scan, holds-by, events-held, turn-length}
 use Rattle.worker_theorems.specs.Calls.{Page, Ask, admit, verdict, aTurn, collect, readBody, State, answer, next, afterCalls, placeAt, eventsOf}
-use Rattle.worker_theorems.specs.Demand3.{isRefused, verdictTo, verdictsTo, turnWhile, turnsWhile, unfinished, Lent, lentWell, leaves, Fair, bound, turnsFor}
+use Rattle.worker_theorems.specs.Demand3.{verdictTo, verdictsTo, turnWhile, turnsWhile, unfinished, Lent, lentWell, leaves, Fair, bound, turnsFor}
 use Rattle.worker_theorems.proofs.Ranged.{Ranged, ranged-own, after-call}
 use Rattle.worker_theorems.proofs.Refused.{answer-given}
 use Rattle.worker_theorems.proofs.Ring.{gap, Found, seek-finds, gap-nearer, gap-small, after-small}

@@ -1,11 +1,10 @@
 -- Every worker that calls give is in range: docs/NUMBERS.md lists the ranges, and `allInRange` is their test.
 use Prim.Native.Nat.{ℕ, zero, suc, _≤_, _<_}
 use native.Mathlib.Omega.{arith}
-use native.Mathlib.Nat.{not-suc-le-zero}
 use native.Mathlib.Decide.{ℕ-discrete}
 use mathlib.Core.Path.{_≡_, refl, sym, ap, _∙_, subst}
 use mathlib.Core.Logic.{_≢_, by-cases}
-use mathlib.Core.Bool.{Bool, true, false, not, _||_, true≢false}
+use mathlib.Core.Bool.{true, false, not, _||_, true≢false}
 use mathlib.Core.List.{List, [], _∷_}
 use lib.ListN.{length, set, length-set, getD-replicate}
 use lib.Seq.{getD-set-same, getD-set-other}
@@ -16,8 +15,7 @@ use Rattle.base.proofs.Choice.{if-is, case, and-yes, both, or-yes, or-yes′, o
 use Rattle.base.specs.declared.Verdict.{Verdict}
 use Rattle.events.specs.Share.{shareOf}
 use Rattle.scan.specs.declared.Scan.{Scan}
-use Rattle.scan.specs.Scan.{runScan}
-use Rattle.scan.specs.Call.{scanInRange, runnable, runOf, givable, givenScan, giveOf, freshScan, started, beginOf}
+use Rattle.scan.specs.Call.{scanInRange, runnable, runOf, givable, givenScan, giveOf, freshScan, started}
 use Rattle.scan.proofs.Begun.{begins}
 use Rattle.scan_theorems.proofs.Calls.{run-gives-in-range, give-gives-in-range, new-gives-in-range}
 use Rattle.scan_theorems.proofs.Scans.{job-kept}

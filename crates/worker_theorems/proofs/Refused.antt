@@ -1,12 +1,12 @@
 -- A refused call changes nothing: of every worker, made up or not.
 use Prim.Native.Nat.{ℕ, _<_}
 use native.Mathlib.Omega.{arith}
-use mathlib.Core.Path.{_≡_, refl, sym, _∙_}
+use mathlib.Core.Path.{_≡_, refl}
 use mathlib.Core.Bool.{Bool, true, false, not, _||_}
 use mathlib.Core.List.{List, [], _∷_}
 use lib.Dec.{leb, eqb}
 use borrow.Author.Tests.{leb-false}
-use Rattle.base.specs.If.{if_then_else_, among}
+use Rattle.base.specs.If.{among}
 use Rattle.base.proofs.Choice.{if-is, both, not-yes, or-left, or-right}
 use Rattle.base.specs.Range.{within}
 use Rattle.base.proofs.Ranges.{within-is}
@@ -17,12 +17,12 @@ use Rattle.scan.specs.Call.{scanInRange}
 use Rattle.scan_theorems.proofs.Tests.{clash}
 use Rattle.scan_theorems.proofs.EveryState.{_&_, found-or, all-hold}
 use Rattle.scan_theorems.proofs.Parts.{parts}
-use Rattle.mdx_collect.specs.Collect.{Collected, copiedOf, collectOf}
+use Rattle.mdx_collect.specs.Collect.{Collected, collectOf}
 use Rattle.worker.specs.declared.Worker.{Worker}
 use Rattle.worker.specs.Reply.{Left}
 use Rattle.worker.specs.Worker.{servedAt, bodyCall}
 use Rattle.worker.proofs.Laws.{held-scan}
-use Rattle.worker_theorems.specs.Calls.{Page, Ask, admit, verdict, aTurn, collect, readBody, callOf}
+use Rattle.worker_theorems.specs.Calls.{admit, verdict, aTurn, collect, readBody}
 use Rattle.worker_theorems.specs.Demand3.{isRefused}
 use Rattle.worker_theorems.specs.Ranges.{refuses, RefusedChangesNothing}
 use Rattle.worker_theorems.proofs.Views.{view-admit, view-verdict, view-collect, view-turn}

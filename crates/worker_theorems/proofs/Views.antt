@@ -1,13 +1,13 @@
 -- What a call can come to, of any worker: whatever holds of each case holds of the call.
-use Prim.Native.Nat.{ℕ, _≤_, _<_}
+use Prim.Native.Nat.{ℕ, _<_}
 use native.Mathlib.Omega.{arith}
-use mathlib.Core.Path.{_≡_, refl, sym, ap, ap₂, _∙_, subst}
+use mathlib.Core.Path.{_≡_, refl, sym, ap, _∙_, subst}
 use mathlib.Core.Bool.{true, false, not}
 use mathlib.Core.List.{List, [], _∷_}
 use lib.ListN.{length, set}
 use lib.Seq.{set-getD}
 use lib.Dec.{eqb}
-use borrow.Author.Tests.{leb-true, leb-false, eqb-true}
+use borrow.Author.Tests.{leb-false, eqb-true}
 use Rattle.base.specs.If.{if_then_else_, among}
 use Rattle.base.proofs.Choice.{if-is, case, both, not-yes}
 use Rattle.base.specs.Number as number
