@@ -5,9 +5,9 @@ mod reading;
 mod replying;
 mod script;
 
+use lines::finish_run;
 use lines::fresh_run;
 use lines::one_turn;
-ghost use Prim.Native.Nat.{_<_};
 
 // Room for the longest line, which lends bytes in hex; for those bytes; for the event buffer, with one word more, so that a buffer
 // of another length than any worker's can be lent; for a copy of a body; and for what is about to be written, of which the longest
@@ -32,8 +32,7 @@ fn main() {
     run_all(&mut buffer, &mut lent, &mut events, &mut scratch, &mut out);
 }
 
-// The arrays go on as slices from here, so that nothing is asked about so many elements. A proved loop ends, and nothing says that
-// an input does: so the turns are counted down.
+// The arrays go on as slices from here, so that nothing is asked about so many elements.
 fn run_all(
     buffer: &mut [u8; LINE_ROOM],
     lent: &mut [u8; LENT_ROOM],
@@ -45,13 +44,7 @@ fn run_all(
     let mut left = TURNS;
     while 0 < left {
         run = one_turn(buffer, lent, events, scratch, out, run);
-        left = turns_left(left, run.going);
+        left = text::turns_left(left, run.going);
     }
-}
-
-fn turns_left(left: u64, going: bool) -> u64
-    requires { ⌜ 0 < left ⌝ }
-    ensures { λ r. ⌜ r < left ⌝ }
-{
-    if going { left - 1 } else { 0 }
+    finish_run(out, run);
 }

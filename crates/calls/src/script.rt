@@ -9,14 +9,16 @@ use text::Hex;
 use text::Letters;
 use worker::Called;
 use worker::Worker;
-ghost use Prim.Native.Nat.{_≤_};
 
-// The worker, how many bytes are lent, how many words its event buffer has, and how far the output's buffer is filled.
+// The worker, how many bytes are lent, how many words its event buffer has, how far the output's buffer is filled, the number of the
+// line at hand, and how many lines were no calls.
 pub(crate) struct Script {
     pub worker: Worker,
     pub lent: usize,
     pub words: usize,
     pub used: usize,
+    pub line: u64,
+    pub bad: u64,
 }
 
 // The longest event buffer of a worker, in words.
@@ -31,19 +33,16 @@ pub(crate) fn fresh_script() -> Script {
         lent: 0,
         words: 0,
         used: 0,
+        line: 0,
+        bad: 0,
     }
 }
 
-fn least(a: usize, b: usize) -> usize
-    ensures { λ r. ⌜ (r ≤ a) × (r ≤ b) ⌝ }
-{
-    if a < b { a } else { b }
-}
-
 // A line that is no call, or that asks for more than the program has room for, changes nothing.
-pub(crate) fn bad_line(out: &mut [u8], script: Script) -> Script {
+pub(crate) fn bad_line(out: &mut [u8], script: Script, why: &[u8]) -> Script {
     let mut next = script;
-    next.used = report::put(out, script.used, b"BadLine\n");
+    next.used = report::put_bad_line(out, script.used, script.line, why);
+    next.bad = std::num::wrapping_add_u64(script.bad, 1);
     next
 }
 
@@ -64,6 +63,8 @@ fn finish(line: &[u8], called: Called, events: &[u32], out: &mut [u8], script: S
         lent: script.lent,
         words: script.words,
         used,
+        line: script.line,
+        bad: script.bad,
     }
 }
 
@@ -109,14 +110,14 @@ fn serve_place(
             line,
             lent,
             events,
-            least(count, script.lent),
+            text::least(count, script.lent),
             script.words,
             out,
             script,
         ),
         Call::Tell { place, verdict } => tell(line, place, verdict, out, script),
         Call::Collect(place) => collect(line, place, events, out, script),
-        _ => bad_line(out, script),
+        _ => bad_line(out, script, b""),
     }
 }
 
@@ -130,8 +131,8 @@ fn lend(line: &[u8], from: usize, lent: &mut [u8], out: &mut [u8], script: Scrip
             next.used = report::put(out, at, b"Lent\n");
             next
         }
-        Hex::BadHex => bad_line(out, script),
-        Hex::NoRoom => bad_line(out, script),
+        Hex::BadHex => bad_line(out, script, b""),
+        Hex::NoRoom => bad_line(out, script, b""),
     }
 }
 
@@ -145,7 +146,7 @@ fn start(
     script: Script,
 ) -> Script {
     if MOST_WORDS < words {
-        return bad_line(out, script);
+        return bad_line(out, script, b"");
     }
     let called = Worker::new(q, words);
     let reply = called.reply;
@@ -189,7 +190,7 @@ fn admit(
     out: &mut [u8],
     script: Script,
 ) -> Script {
-    let count = least(script.lent, lent.len());
+    let count = text::least(script.lent, lent.len());
     let worker = script.worker;
     let called = worker.admit(
         &lent[0..count],
@@ -214,8 +215,8 @@ fn turn(
     out: &mut [u8],
     script: Script,
 ) -> Script {
-    let bytes = least(count, lent.len());
-    let length = least(words, events.len());
+    let bytes = text::least(count, lent.len());
+    let length = text::least(words, events.len());
     let worker = script.worker;
     let called = worker.turn(&lent[0..bytes], &mut events[0..length]);
     finish(line, called, events, out, script)
@@ -229,7 +230,7 @@ fn tell(line: &[u8], place: usize, verdict: Verdict, out: &mut [u8], script: Scr
 
 // The events of the page stand in the share of its place.
 fn collect(line: &[u8], place: usize, events: &[u32], out: &mut [u8], script: Script) -> Script {
-    let count = least(script.words, events.len());
+    let count = text::least(script.words, events.len());
     let worker = script.worker;
     let called = worker.collect(place);
     let share = worker.share(&events[0..count], place);
@@ -247,9 +248,9 @@ fn body(
     script: Script,
 ) -> Script {
     if scratch.len() < count {
-        return bad_line(out, script);
+        return bad_line(out, script, b"");
     }
-    let bytes = least(script.lent, lent.len());
+    let bytes = text::least(script.lent, lent.len());
     let worker = script.worker;
     let at = put_call(line, out, script.used);
     let at = put_body(

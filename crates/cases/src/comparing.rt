@@ -28,7 +28,7 @@ pub(crate) fn agrees(line: &[u8], from: usize, told: Told, answer: &[u8], words:
 }
 
 // The place past the word, if the word stands at this place.
-fn eat(line: &[u8], from: usize, word: &[u8]) -> usize {
+pub(crate) fn eat(line: &[u8], from: usize, word: &[u8]) -> usize {
     if from == 0 {
         return 0;
     }

@@ -4,12 +4,12 @@ mod body;
 mod comparing;
 mod lines;
 mod reading;
+mod recorded;
 mod running;
 
 use lines::fresh_run;
 use lines::one_turn;
 use lines::put_totals;
-ghost use Prim.Native.Nat.{_<_};
 
 // Room for the longest line, a page, a body, the words of six events for each byte and the page's end, an answer with its body in
 // hex, and what is about to be written.
@@ -43,8 +43,7 @@ fn main() {
     );
 }
 
-// The arrays go on as slices from here, so that nothing is asked about so many elements. A proved loop ends, and nothing says that
-// an input does: so the turns are counted down.
+// The arrays go on as slices from here, so that nothing is asked about so many elements.
 fn run_all(
     buffer: &mut [u8; LINE_ROOM],
     page: &mut [u8; PAGE_ROOM],
@@ -57,14 +56,7 @@ fn run_all(
     let mut left = TURNS;
     while 0 < left {
         run = one_turn(buffer, page, words, scratch, piece, out, run);
-        left = turns_left(left, run.going);
+        left = text::turns_left(left, run.going);
     }
     put_totals(out, run);
-}
-
-fn turns_left(left: u64, going: bool) -> u64
-    requires { ⌜ 0 < left ⌝ }
-    ensures { λ r. ⌜ r < left ⌝ }
-{
-    if going { left - 1 } else { 0 }
 }

@@ -8,7 +8,7 @@ use mathlib.Core.Logic.{_≢_, by-cases}
 use mathlib.Core.List.{List, _++_}
 use lib.ListN.{length, take, drop, length-append, length-drop, take-append-drop}
 use lib.Seq.{take-append-le, drop-append-le, drop-append-add, take-at, drop-at, length-take-le}
-use Rattle.events.specs.Share.{shareOf, shareIn, withShare}
+use Rattle.events.specs.Share.{shareIn, withShare}
 
 front : (n d : ℕ) (a x : List ℕ) → d + n ≤ length a → take n (drop d (a ++ x)) ≡ take n (drop d a)
 front n d a x h =

@@ -1,14 +1,19 @@
 // Lists the scan of one page, which stands on standard input: the answer on the first line, with its values, steps and
-// event count, then a line for each event. A page that begins with `{` is read as an expression, one that begins with `<`
-// as a tag, any other as an ESM block whose verdicts are all fine.
-use base::Verdict;
-use libc::STDIN_FILENO;
-use libc::STDOUT_FILENO;
+// event count, then a line for each event. The status is 0 for Done, 1 for any other answer and 2 where there is none.
+//
+// `listing [START [f|t]]`: the scan starts at an offset of the page, 0 if it is left out, in flow or in text.
+mod arguments;
+mod reading;
+mod scanning;
+
+use arguments::Asked;
+use arguments::ReadArguments;
+use arguments::read_arguments;
+use reading::ReadPage;
+use reading::read_page;
 use report::Told;
 use report::tell;
-use scan::Answer;
-use scan::Began;
-use scan::Scan;
+use scanning::answer_of;
 
 // The longest page, and room for one byte more, which shows that a page is longer.
 const LONGEST: usize = 60_000;
@@ -19,14 +24,6 @@ const PAGE_ROOM: usize = 60_001;
 const WORD_ROOM: usize = 6 * PAGE_ROOM * events::WIDTH;
 
 const TEXT_ROOM: usize = 65_536;
-
-// More steps than a run over the longest page takes, and more runs than it asks for verdicts.
-const ALLOWANCE: usize = 480_016;
-
-const RUNS: usize = 60_001;
-
-// The flag that says that a verdict source is at hand.
-const ASKS: u8 = 1;
 
 fn main() {
     let mut page = [0u8; PAGE_ROOM];
@@ -41,76 +38,37 @@ fn run(page: &mut [u8; PAGE_ROOM], words: &mut [u32; WORD_ROOM], out: &mut [u8; 
 }
 
 fn list(space: &mut [u8], words: &mut [u32], out: &mut [u8]) {
-    let count = io::read_full(STDIN_FILENO, space);
-    if LONGEST < count {
-        io::write_all(STDOUT_FILENO, b"toolong\n");
+    match read_arguments() {
+        ReadArguments::Good(asked) => list_input(asked, space, words, out),
+        ReadArguments::Bad => report::give_up(b"usage: listing [START [f|t]]\n"),
+    }
+}
+
+fn list_input(asked: Asked, space: &mut [u8], words: &mut [u32], out: &mut [u8]) {
+    match read_page(space) {
+        ReadPage::Read(read) => {
+            let count = text::least(read, space.len());
+            list_page(asked, &space[0..count], words, out)
+        }
+        ReadPage::Failed => report::give_up(b"listing: standard input can't be read\n"),
+    }
+}
+
+fn list_page(asked: Asked, page: &[u8], words: &mut [u32], out: &mut [u8]) {
+    if LONGEST < page.len() {
+        report::flush(b"toolong\n", 8);
+        report::say_status(1);
         return;
     }
-    let answer = answer_of(&space[0..count], words);
+    let answer = answer_of(asked, page, words);
     list_answer(tell(answer), words, out);
-}
-
-fn answer_of(page: &[u8], words: &mut [u32]) -> Answer {
-    let construct = construct_of(page);
-    let began = Scan::new(
-        page,
-        0,
-        page.len(),
-        0,
-        construct,
-        tokenizer::FLOW,
-        flags_of(construct),
-        words.len(),
-    );
-    match began {
-        Began::Started(scan) => last_answer(scan, page, words),
-        Began::Refused(answer) => answer,
-    }
-}
-
-fn construct_of(page: &[u8]) -> u8 {
-    if page.len() == 0 {
-        return tokenizer::ESM;
-    }
-    match page[0] {
-        b'{' => tokenizer::EXPRESSION,
-        b'<' => tokenizer::TAG,
-        _ => tokenizer::ESM,
-    }
-}
-
-fn flags_of(construct: u8) -> u8 {
-    if construct == tokenizer::ESM { ASKS } else { 0 }
-}
-
-// The scan runs until it has ended; whenever it asks, all is fine.
-fn last_answer(scan: Scan, page: &[u8], words: &mut [u32]) -> Answer {
-    let mut s = scan;
-    let mut left = RUNS;
-    while 0 < left {
-        let ran = s.run(page, words, ALLOWANCE);
-        let answer = ran.answer;
-        if !asks(answer) {
-            return answer;
-        }
-        let told = ran.scan.give(Verdict::Fine);
-        s = told.scan;
-        left = left - 1;
-    }
-    s.answer()
-}
-
-fn asks(answer: Answer) -> bool {
-    match answer {
-        Answer::Asking { .. } => true,
-        _ => false,
-    }
 }
 
 fn list_answer(told: Told, words: &[u32], out: &mut [u8]) {
     let used = first_line(out, told);
     let used = report::put_event_lines(out, used, words, told.events);
     report::flush(out, used);
+    report::say_status(if told.number == 0 { 0 } else { 1 });
 }
 
 // The answer in lower case, and its steps and event count where it carries them.

@@ -3,10 +3,12 @@ use Prim.Native.Nat.{ℕ, _-_, _*_, _/_}
 use mathlib.Core.List.{List, [], _∷_}
 use lib.Dec.{eqb, ltb}
 use lib.ListN.{length}
+use Rattle.base.specs.Byte.{lineFeed, space}
 use Rattle.base.specs.If.{if_then_else_}
 use Rattle.events.specs.declared.Event.{Event}
 use Rattle.events.specs.Room.{heldIn}
 use Rattle.events.specs.Words.{eventsIn}
+use Rattle.report.specs.Decimal.{decimal}
 use Rattle.report.specs.Put.{Put, outcome, inRoom, putOf}
 
 -- where to go on
@@ -27,6 +29,28 @@ fieldRoom room count =
 -- more than an event takes
 abbrev pub eventRoom : ℕ
 eventRoom = 256
+
+-- more than a line that can't be read takes, which is never repeated
+abbrev pub badLineRoom : ℕ
+badLineRoom = 256
+
+-- `BadLine `
+abbrev pub badLine : List ℕ
+badLine = 66 ∷ 97 ∷ 100 ∷ 76 ∷ 105 ∷ 110 ∷ 101 ∷ space ∷ []
+
+-- its number, and why, if that is known
+abbrev pub badLinePieces : ℕ → List ℕ → List (List ℕ)
+badLinePieces line why = badLine ∷ decimal line ∷ why ∷ (lineFeed ∷ []) ∷ []
+
+-- ` bad lines`, and a line feed
+abbrev pub badLines : List ℕ
+badLines = space ∷ 98 ∷ 97 ∷ 100 ∷ space ∷ 108 ∷ 105 ∷ 110 ∷ 101 ∷ 115 ∷ lineFeed ∷ []
+
+-- how many there were, if any
+unfoldable pub badLinesPut : List ℕ → ℕ → ℕ → Put
+badLinesPut out used count =
+    if eqb count 0 then outcome used out
+    else putOf out (freePlace (length out) used badLineRoom) (decimal count ∷ badLines ∷ [])
 
 -- the events one after the other, each by its pieces
 unfoldable pub putEach : (Event → List (List ℕ)) → List ℕ → ℕ → List Event → Put

@@ -1,6 +1,6 @@
 -- An answer's number and values, each under a name of its own; together they are what the answer table of docs/SCOPE.md lists.
 use Prim.Native.Nat.{ℕ}
-use mathlib.Core.Bool.{Bool, true, false}
+use mathlib.Core.Bool.{true, false}
 use mathlib.Core.List.{List, [], _∷_, _++_}
 use lib.ListN.{take}
 use Rattle.base.specs.If.{if_then_else_}

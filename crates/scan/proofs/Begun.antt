@@ -1,7 +1,7 @@
 -- What a new scan tells: the numbers are listed, the page is admitted, and the scan is a fresh one.
 use Prim.Native.Nat.{ℕ}
 use native.Mathlib.Omega.{arith}
-use mathlib.Core.Path.{_≡_, refl, sym}
+use mathlib.Core.Path.{_≡_, refl}
 use mathlib.Core.Bool.{true}
 use mathlib.Core.List.{List}
 use Rattle.base.specs.If.{if_then_else_}

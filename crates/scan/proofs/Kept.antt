@@ -14,13 +14,13 @@ use Rattle.base.specs.declared.Marks.the-variants.{Nothing}
 use Rattle.base.specs.declared.Move.{Move}
 use Rattle.base.specs.declared.Verdict.{Verdict}
 use Rattle.events.specs.declared.Event.{Event}
-use Rattle.events.specs.Words.{width, roomIn, encode, written, eventsIn}
+use Rattle.events.specs.Words.{width, roomIn, encode, eventsIn}
 use Rattle.events.proofs.Laws.{encode-long, encode-append, written-is, encoded-read}
 use Rattle.tokenizer.specs.declared.Job.{Job}
 use Rattle.tokenizer.specs.Moved.{moved}
 use Rattle.scan.specs.declared.Scan.{Scan}
-use Rattle.scan.specs.Scan.{choice, lacks, carriedOut, stepScan, runScan, runEvents, runWords}
-use Rattle.scan.specs.Call.{jobOf, freshScan, givable, givenScan, giveOf, runnable, runOf}
+use Rattle.scan.specs.Scan.{choice, lacks, stepScan, runScan, runEvents, runWords}
+use Rattle.scan.specs.Call.{freshScan, givable, givenScan, giveOf, runnable, runOf}
 use Rattle.scan.specs.Statement.{Call, run, give, callOf, scanAfter, wordsAfter, callEvents, eventsAfter, Holds, EventsStay, EventsRead}
 use Rattle.scan.proofs.Pausing.{events-are-counted}
 use Rattle.scan.proofs.Runs.{run-keeps}

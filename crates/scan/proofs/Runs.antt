@@ -17,7 +17,7 @@ use Rattle.base.specs.declared.Move.{Move}
 use Rattle.scan.specs.declared.Scan.{Scan}
 use Rattle.tokenizer.specs.Decision.{decision}
 use Rattle.events.specs.Words.{written}
-use Rattle.events.proofs.Laws.{count-is, written-append, written-none, written-long}
+use Rattle.events.proofs.Laws.{count-is, written-append, written-none}
 use Rattle.scan.specs.Scan.{choice, carriedOut, movedScan, stepScan, stepEvents, runScan, runEvents, runWords}
 use Rattle.scan.specs.Inner.{Fit, Glides}
 use Rattle.scan.proofs.Steps.{none, fit-step}

@@ -1,8 +1,7 @@
 -- The ways of a single scan in one call.
-use Prim.Native.Nat.{ℕ, _+_, _-_, _<_, _≤_}
+use Prim.Native.Nat.{ℕ, _+_, _-_, _≤_}
 use native.Mathlib.Omega.{arith}
 use mathlib.Core.Path.{_≡_, refl, sym, ap, _∙_}
-use mathlib.Core.Bool.{true}
 use mathlib.Core.List.{List}
 use lib.ListN.{length, take, drop}
 use borrow.Author.Tests.{lt-ltb, le-ltb}
@@ -13,7 +12,7 @@ use Rattle.scan.specs.declared.Answer.{Answer}
 use Rattle.scan.specs.declared.Began.{Began}
 use Rattle.scan.specs.declared.Began.the-variants as began
 use Rattle.scan.specs.Answer.{saidBy, refused}
-use Rattle.scan.specs.Call.{Left, left, noScan, started, notStarted, begunBy, beginOf, ranFrom, runOf, singleOf}
+use Rattle.scan.specs.Call.{Left, left, noScan, begunBy, beginOf, ranFrom, runOf, singleOf}
 use Rattle.scan.proofs.Begun.{begins}
 
 module _ (bytes : List ℕ) (at n start construct kind flags allowance : ℕ) (words : List ℕ) where

@@ -9,8 +9,7 @@ use lib.Dec.{ltb, eqb}
 use borrow.Author.Tests.{ne-eqb, eqb-true}
 use Rattle.base.specs.Byte.{lineFeed, endOfPage}
 use Rattle.base.specs.If.{if_then_else_}
-use Rattle.base.proofs.Choice.{if-is, case, and-no, or-no, or-cases}
-use Rattle.base.specs.Range.{within}
+use Rattle.base.proofs.Choice.{if-is, and-no, or-no, or-cases}
 use Rattle.base.proofs.Ranges.{within-is}
 use Rattle.base.specs.Table.{find}
 use Rattle.base.specs.State as state

@@ -32,7 +32,7 @@ use Rattle.scan.specs.Call.{scanInRange}
 use Rattle.scan_theorems.specs.Rows.{tagState, takesAnyByte, notAsciiMet, endMet, wayOn, tooManyEvents, RowsOf}
 use Rattle.scan_theorems.specs.Statement.{ExactRows}
 use Rattle.scan_theorems.proofs.Tests.{clash}
-use Rattle.scan_theorems.proofs.EveryState.{_&_, found, all, all-hold}
+use Rattle.scan_theorems.proofs.EveryState.{_&_, found, all-hold}
 use Rattle.scan_theorems.proofs.Endings.{Ending, ending, tag-state-ends, esm-state-ends}
 use Rattle.scan_theorems.proofs.Parts.{parts, low, high}
 

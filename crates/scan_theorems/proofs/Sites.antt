@@ -9,7 +9,7 @@ use lib.Dec.{leb, eqb}
 use borrow.Author.Tests.{ne-eqb, eq-eqb, eqb-true, leb-true}
 use Rattle.base.specs.Byte.{greaterThan}
 use Rattle.base.specs.If.{if_then_else_}
-use Rattle.base.proofs.Choice.{if-is, case, or-cases, or-no, or-yes}
+use Rattle.base.proofs.Choice.{if-is, or-cases, or-no, or-yes}
 use Rattle.base.proofs.Ranges.{within-is}
 use Rattle.base.specs.Page.{byteAt}
 use Rattle.base.specs.State as state

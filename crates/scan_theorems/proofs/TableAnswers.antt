@@ -24,7 +24,7 @@ use Rattle.scan.specs.Call.{givenScan, freshScan}
 use Rattle.scan.specs.Alone.{runAlone}
 use Rattle.scan_theorems.specs.Statement.{answersOfScans, whereOf, ByTheTable}
 use Rattle.scan_theorems.proofs.Tests.{clash}
-use Rattle.scan_theorems.proofs.EveryState.{_&_, found-or, all, all-hold}
+use Rattle.scan_theorems.proofs.EveryState.{_&_, found-or, all-hold}
 use Rattle.scan_theorems.proofs.Parts.{parts, low, high}
 use Rattle.scan_theorems.proofs.Sites.{sitedEnd, Placed, placed-tag, placed-esm, placed-full}
 use Rattle.scan_theorems.proofs.Scans.{Within, within-step, within-given, within-fresh, alone-keeps, told-keeps}

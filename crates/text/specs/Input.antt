@@ -17,6 +17,13 @@ use Rattle.text.specs.Part.{part}
 unfoldable pub leastOf : ℕ → ℕ → ℕ
 leastOf a b = if ltb a b then a else b
 
+-- the turns that are left after one more
+unfoldable pub turnsLeft : ℕ → Bool → ℕ
+turnsLeft left going =
+    if eqb left 0 then 0
+    else if going then left - 1
+    else 0
+
 -- no bytes are left over
 abbrev pub frontInput : Bool → Input
 frontInput skips = record { at = 0; end = 0; skips = skips; ended = false }

@@ -6,3 +6,4 @@ pub mod Hex
 pub mod Letters
 pub mod Verdict
 pub mod Input
+pub mod Sort

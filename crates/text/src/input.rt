@@ -6,9 +6,9 @@ use crate::places::find;
 use libc::STDIN_FILENO;
 ghost use mathlib.Core.Path.{_≡_};
 ghost use mathlib.Core.Bool.{false};
-ghost use Prim.Native.Nat.{_+_, _-_, _≤_};
+ghost use Prim.Native.Nat.{_+_, _-_, _≤_, _<_};
 ghost use lib.ListN.{length};
-ghost use Rattle.text.specs.Input.{leastOf, frontInput, cutOf, lineOf, lastOf, restOf, takenOf, movedDown, Filled};
+ghost use Rattle.text.specs.Input.{leastOf, turnsLeft, frontInput, cutOf, lineOf, lastOf, restOf, takenOf, movedDown, Filled};
 
 // The unused bytes are those from `at` up to `end`. A line that was too long is being skipped; the input has ended.
 pub struct Input {
@@ -31,6 +31,13 @@ pub enum Line {
     Ended,
 }
 
+// What a read has come to: the input to go on with, and whether the read failed. A read that fails gives nothing, so that the input
+// has ended there; whoever reads on says so.
+pub struct Refill {
+    pub input: Input,
+    pub failed: bool,
+}
+
 // What was taken, where it stands in the buffer, and the input to go on with.
 pub struct Taken {
     pub line: Line,
@@ -48,11 +55,23 @@ impl Input {
     }
 }
 
-fn least(a: usize, b: usize) -> usize
+pub fn least(a: usize, b: usize) -> usize
     ensures { λ r. ⌜ r ≡ leastOf a b ⌝ }
     ensures { λ r. ⌜ (r ≤ a) × (r ≤ b) ⌝ }
 {
     if a < b { a } else { b }
+}
+
+// How many turns are left after one more. A proved loop ends, and nothing says that an input does: so a program that reads on counts
+// its turns down, from more than any input takes.
+pub fn turns_left(left: u64, going: bool) -> u64
+    ensures { λ r. ⌜ r ≡ turnsLeft left going ⌝ }
+    ensures { λ r. ⌜ (0 < left → r < left) ⌝ }
+{
+    if left == 0 {
+        return 0;
+    }
+    if going { left - 1 } else { 0 }
 }
 
 // The next line of the buffer. The first clause says what a caller needs that cuts it out.
@@ -159,8 +178,8 @@ const READ_ROOM: usize = 16_384;
 
 // The unused bytes are moved to the front, and what one read gives is put behind them. A read that gives nothing, or fails,
 // is the input's end.
-pub fn fill(buffer: &mut [u8], input: Input) -> Input
-    ensures { λ r. ⌜ Filled (now (buffer .entry)) input r (now (buffer .exit)) ⌝ }
+pub fn fill(buffer: &mut [u8], input: Input) -> Refill
+    ensures { λ r. ⌜ Filled (now (buffer .entry)) input (r .input) (now (buffer .exit)) ⌝ }
 {
     let end = least(input.end, buffer.len());
     let at = least(input.at, end);
@@ -169,11 +188,14 @@ pub fn fill(buffer: &mut [u8], input: Input) -> Input
     let stop = rest + least(buffer.len() - rest, READ_ROOM);
     let got = libc::read(STDIN_FILENO, &mut buffer[rest..stop]);
     let count = io::count(got, &buffer[rest..stop]);
-    Input {
-        at: 0,
-        end: rest + count,
-        skips: input.skips,
-        ended: count == 0,
+    Refill {
+        input: Input {
+            at: 0,
+            end: rest + count,
+            skips: input.skips,
+            ended: count == 0,
+        },
+        failed: got < 0,
     }
 }
 

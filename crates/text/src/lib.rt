@@ -1,5 +1,5 @@
-// For programs that read lines of text: lines from standard input, the next place of a byte, a word, a decimal number, hex
-// digits, the letters of a case and a verdict.
+// For programs that read lines of text: lines from standard input, what sort of line it is, the next place of a byte, a word, a
+// decimal number, hex digits, the letters of a case and a verdict.
 //
 // A part of a line is given by the place of its first byte and the place past its last. No function asks anything of
 // its caller: a part that does not lie in the line is no word, no number, no hex and no verdict.
@@ -8,6 +8,7 @@ mod input;
 mod letters;
 mod numbers;
 mod places;
+mod sorts;
 mod verdicts;
 mod words;
 
@@ -17,9 +18,12 @@ pub use hexadecimal::hex_value;
 pub use hexadecimal::read_bytes;
 pub use input::Input;
 pub use input::Line;
+pub use input::Refill;
 pub use input::Taken;
 pub use input::fill;
+pub use input::least;
 pub use input::take_line;
+pub use input::turns_left;
 pub use letters::Letters;
 pub use letters::ReadLetters;
 pub use letters::read_letters;
@@ -28,6 +32,8 @@ pub use numbers::ReadNumber;
 pub use numbers::decimal;
 pub use numbers::read_number;
 pub use places::find;
+pub use sorts::Sort;
+pub use sorts::sort_of;
 pub use verdicts::ReadVerdict;
 pub use verdicts::read_verdict;
 pub use words::is_word;

@@ -10,10 +10,9 @@ use lib.Dec.{ltb, eqb}
 use borrow.Author.Tests.{eq-eqb, ne-eqb, le-leb, lt-leb, le-ltb, lt-ltb, ltb-true, leb-true}
 use Rattle.base.proofs.Choice.{if-yes, if-no, if-is, and-yes, and-no, and-no′, and-also, both}
 use Rattle.base.specs.declared.Verdict.{Verdict}
-use Rattle.events.specs.Share.{shareOf, shareStart, shareIn}
+use Rattle.events.specs.Share.{shareOf, shareStart}
 use Rattle.events.specs.Span.{frontOf}
 use Rattle.scan.specs.declared.Ran.{Ran}
-use Rattle.scan.specs.Answer as single
 use Rattle.scan.specs.Answer.{Said, said, answerOf}
 use Rattle.scan.specs.Call as single-call
 use Rattle.scan.specs.Call.{Begun, scanInRange, askedAnswer, numbersListed, giveOf, beginOf, runOf}
@@ -22,7 +21,7 @@ use Rattle.worker.specs.declared.Place.{Place}
 use Rattle.worker.specs.declared.Worker.{Worker}
 use Rattle.worker.specs.Place.{placeOf, freePlace, placeIn, ended, placeInRange, nextIn, lowestIn, stored, workerInRange, holds}
 use Rattle.worker.specs.Reply.{Left, left, refusing}
-use Rattle.worker.specs.Worker.{freshOf, startOf, placedBy, admitOf, givenBy, verdictOf, collectCall, pageIn, liesIn, runAt, servedBy, servedAt, ready, turnAt, turnOf, holdsPage, readBy, bodyCall, pageAt, startAt, shareAt, eventsAt}
+use Rattle.worker.specs.Worker.{freshOf, startOf, placedBy, admitOf, givenBy, verdictOf, collectCall, liesIn, runAt, servedBy, servedAt, ready, turnAt, turnOf, holdsPage, readBy, bodyCall, pageAt, startAt, shareAt, eventsAt}
 
 -- a test that the code makes the other way round
 pub not-no : (b : Bool) → not b ≡ false → b ≡ true

@@ -1,5 +1,5 @@
 -- The laws by which a loop follows the search round the ring.
-use mathlib.Core.Path.{_≡_, refl, sym, _∙_}
+use mathlib.Core.Path.{_≡_, sym, _∙_}
 use mathlib.Core.Logic.{by-cases}
 use mathlib.Core.Bool.{Bool, true, false}
 use native.Mathlib.Decide.{decLe}

@@ -6,7 +6,7 @@ use Prim.Native.Nat.{ℕ}
 use mathlib.Core.Bool.{Bool, true, false, not, _&&_, _||_}
 use mathlib.Core.List.{List, [], _∷_}
 use lib.Dec.{leb, ltb, eqb}
-use lib.ListN.{length, getD, set, replicate}
+use lib.ListN.{length, getD, set}
 use Rattle.base.specs.State.{asking, firstRunning}
 use Rattle.base.specs.declared.Verdict.the-variants.{Fine}
 use Rattle.events.specs.Share.{shareOf}

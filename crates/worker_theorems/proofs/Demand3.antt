@@ -17,7 +17,6 @@ use Rattle.base.specs.State.{asking}
 use Rattle.base.specs.declared.Verdict.{Verdict}
 use Rattle.events.specs.Share.{shareOf, shareIn}
 use Rattle.tokenizer.specs.declared.Job.{Job}
-use Rattle.scan.specs.declared.Scan.{Scan}
 use Rattle.scan.specs.Scan.{stepBound}
 use Rattle.scan.specs.Answer.{Said, said, answerOf}
 use Rattle.scan.specs.Call.{jobOf, freshScan}

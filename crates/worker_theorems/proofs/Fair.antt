@@ -38,7 +38,7 @@ use Rattle.worker.specs.Place.{placeOf, freePlace, beyond, placeIn, running, st
 use Rattle.worker.specs.Reply.{Left, left, refusing}
 use Rattle.worker.specs.Ring.{after}
 use Rattle.worker.specs.Worker.{pageIn, bodyCall, shareAt, eventsAt}
-use Rattle.worker.proofs.Laws.{held, held-scan, holds-by, events-held, turn-length}
+use Rattle.worker.proofs.Laws.{held-scan, holds-by, events-held, turn-length}
 use Rattle.worker_theorems.specs.Calls.{Page, Ask, admit, verdict, aTurn, collect, readBody, State, answer, next, afterCalls, placeAt, eventsOf}
 use Rattle.worker_theorems.specs.Demand3.{verdictTo, verdictsTo, turnWhile, turnsWhile, unfinished, Lent, lentWell, leaves, Fair, bound, turnsFor}
 use Rattle.worker_theorems.proofs.Ranged.{Ranged, ranged-own, after-call}

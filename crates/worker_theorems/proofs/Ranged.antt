@@ -15,7 +15,7 @@ use Rattle.base.proofs.Choice.{if-is, case, and-yes, both, or-yes, or-yes′, o
 use Rattle.base.specs.declared.Verdict.{Verdict}
 use Rattle.events.specs.Share.{shareOf}
 use Rattle.scan.specs.declared.Scan.{Scan}
-use Rattle.scan.specs.Call.{scanInRange, runnable, runOf, givable, givenScan, giveOf, freshScan, started}
+use Rattle.scan.specs.Call.{scanInRange, runnable, runOf, givable, givenScan, giveOf, freshScan}
 use Rattle.scan.proofs.Begun.{begins}
 use Rattle.scan_theorems.proofs.Calls.{run-gives-in-range, give-gives-in-range, new-gives-in-range}
 use Rattle.scan_theorems.proofs.Scans.{job-kept}

@@ -22,10 +22,13 @@ turns-left-requires : tie.Need-turns-left-requires Inv-loop μ-loop
 turns-left-requires c κs = search needs
 
 loop-less : tie.Need-loop-less Inv-loop μ-loop
-loop-less c = search needs
+loop-less c = search (needs, c .turns-left .ensures .1)
 
 loop-again : tie.Need-loop-again Inv-loop μ-loop
 loop-again c = search needs
+
+finish-run-requires : tie.Need-finish-run-requires Inv-loop μ-loop
+finish-run-requires c κs = search needs
 
 returns : tie.Need-returns Inv-loop μ-loop
 returns c = search needs
@@ -42,4 +45,5 @@ run-all-spec =
     turns-left-requires
     loop-less
     loop-again
+    finish-run-requires
     returns)

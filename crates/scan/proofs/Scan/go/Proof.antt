@@ -1,5 +1,5 @@
 use native.Mathlib.Omega.{arith}
-use mathlib.Core.Path.{refl, sym, _∙_}
+use mathlib.Core.Path.{refl, _∙_}
 use borrow.Author.Needs.{needs}
 use Rattle.scan.proofs.Steps.{few-count}
 use Rattle.scan.proofs.Runs.{Going, glide, going-rest, going-out, going-more}

@@ -1,5 +1,5 @@
-use mathlib.Core.Path.{_≡_, sym, ap, _∙_}
-use mathlib.Core.Bool.{Bool, true, false, not, true≢false}
+use mathlib.Core.Path.{sym, ap, _∙_}
+use mathlib.Core.Bool.{true, false, not, true≢false}
 use borrow.Author.Needs.{needs}
 use Rattle.scan.proofs.ShortWay.{stay, data-plain, lines, quoted, names}
 use Rattle.scan.proofs.stepping.glides.Statement.{statement}

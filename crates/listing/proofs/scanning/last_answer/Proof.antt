@@ -2,8 +2,8 @@ use Prim.Native.Nat.{_-_}
 use mathlib.Core.Path.{_≡_, refl, _∙_}
 use lib.ListN.{length}
 use borrow.Author.Needs.{needs}
-use Rattle.listing.proofs.last_answer.Statement.{statement}
-use Rattle.listing.proofs.last_answer.Tie as tie
+use Rattle.listing.proofs.scanning.last_answer.Statement.{statement}
+use Rattle.listing.proofs.scanning.last_answer.Tie as tie
 
 abbrev Inv-loop : tie.InvT-loop
 Inv-loop page words₀ s₀ left₀ words s left = length words ≡ length words₀
