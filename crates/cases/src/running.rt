@@ -6,9 +6,8 @@ use base::Verdict;
 use report::Told;
 use report::tell;
 use scan::Answer;
-use scan::Began;
 use scan::Ran;
-use scan::Scan;
+use scan::beginning::single;
 use text::ReadVerdict;
 ghost use Prim.Native.Nat.{_≤_};
 ghost use lib.ListN.{length};
@@ -43,7 +42,7 @@ pub(crate) fn run_case(
 ) -> Outcome
     ensures { λ r. ⌜ r .length ≤ length (now (piece .exit)) ⌝ }
 {
-    let began = Scan::new(
+    let first = single(
         page,
         0,
         page.len(),
@@ -51,15 +50,11 @@ pub(crate) fn run_case(
         case.construct,
         case.kind,
         case.flags,
-        words.len(),
+        case.allowance,
+        words,
     );
-    match began {
-        Began::Started(scan) => {
-            let ran = run_on(line, case, scan, page, words);
-            outcome_of(ran, page, scratch, piece)
-        }
-        Began::Refused(answer) => told_outcome(tell(answer), piece),
-    }
+    let ran = run_on(line, case, first, page, words);
+    outcome_of(ran, page, scratch, piece)
 }
 
 fn told_outcome(told: Told, piece: &mut [u8]) -> Outcome
@@ -85,37 +80,29 @@ fn outcome_of(ran: Ran, page: &[u8], scratch: &mut [u8], piece: &mut [u8]) -> Ou
     Outcome { told, length }
 }
 
-fn run_on(line: &[u8], case: Case, scan: Scan, page: &[u8], words: &mut [u32]) -> Ran {
+// From what the first call has come to.
+fn run_on(line: &[u8], case: Case, first: Ran, page: &[u8], words: &mut [u32]) -> Ran {
     let to = case.verdicts_end;
     let allowance = case.allowance;
     let mut at = case.verdicts;
-    let mut s = scan;
+    let mut ran = first;
     let mut left = CALLS;
     while 0 < left {
-        let turn = one_turn(line, at, to, s, page, words, allowance);
-        let ran = turn.ran;
+        let turn = after_call(line, at, to, ran);
+        let next = turn.ran;
         if !turn.more {
-            return ran;
+            return next;
         }
-        s = ran.scan;
+        let scan = next.scan;
+        ran = scan.run(page, words, allowance);
         at = turn.at;
         left = left - 1;
     }
-    let answer = s.answer();
-    Ran { scan: s, answer }
+    ran
 }
 
-// One call; if the scan asks, the next verdict is given.
-fn one_turn(
-    line: &[u8],
-    at: usize,
-    to: usize,
-    scan: Scan,
-    page: &[u8],
-    words: &mut [u32],
-    allowance: usize,
-) -> Turn {
-    let ran = scan.run(page, words, allowance);
+// A paused scan goes on; to one that asks, the next verdict is given.
+fn after_call(line: &[u8], at: usize, to: usize, ran: Ran) -> Turn {
     let answer = ran.answer;
     match answer {
         Answer::Asking { .. } => answered(line, at, to, ran),

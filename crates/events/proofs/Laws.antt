@@ -127,13 +127,3 @@ read-from before (e ∷ es) rest =
 -- the events at the front of the words are the events that were written there
 pub encoded-read : (es : List Event) (rest : List ℕ) → eventsIn (encode es ++ rest) 0 (length es) ≡ es
 encoded-read es rest = read-from [] es rest
-
--- events that are written behind those that are there are read behind them
-pub written-read : (words : List ℕ) (k : ℕ) (before es : List Event) → (k + length es) * width ≤ length words → length before ≡ k → eventsIn words 0 k ≡ before → take (k * width) words ≡ encode before
-    → eventsIn (written words k es) 0 (k + length es) ≡ before ++ es
-written-read words k before es fits lk eb et =
-    let rest = drop ((k + length es) * width) words in
-    let e : written words k es ≡ encode (before ++ es) ++ rest =
-    written-is words k es fits ∙ ap (λ (l : List ℕ). l ++ encode es ++ rest) et ∙ ap (λ (l : List ℕ). l ++ rest) (sym (encode-append before es)) in
-    let n : k + length es ≡ length (before ++ es) = omega (arith, length-append before es) in
-    ap₂ (λ (l : List ℕ) (m : ℕ). eventsIn l 0 m) e n ∙ encoded-read (before ++ es) rest

@@ -3,8 +3,8 @@
 use crate::arguments::Asked;
 use base::Verdict;
 use scan::Answer;
-use scan::Began;
-use scan::Scan;
+use scan::Ran;
+use scan::beginning::single;
 
 // More steps than a run over the longest page takes, and more runs than it asks for verdicts.
 const ALLOWANCE: usize = 480_016;
@@ -16,7 +16,7 @@ const ASKS: u8 = 1;
 
 pub(crate) fn answer_of(asked: Asked, page: &[u8], words: &mut [u32]) -> Answer {
     let construct = construct_at(page, asked.start);
-    let began = Scan::new(
+    let first = single(
         page,
         0,
         page.len(),
@@ -24,12 +24,10 @@ pub(crate) fn answer_of(asked: Asked, page: &[u8], words: &mut [u32]) -> Answer 
         construct,
         asked.kind,
         flags_of(construct),
-        words.len(),
+        ALLOWANCE,
+        words,
     );
-    match began {
-        Began::Started(scan) => last_answer(scan, page, words),
-        Began::Refused(answer) => answer,
-    }
+    last_answer(first, page, words)
 }
 
 fn construct_at(page: &[u8], at: usize) -> u8 {
@@ -48,20 +46,20 @@ fn flags_of(construct: u8) -> u8 {
 }
 
 // The scan runs until it has ended; whenever it asks, all is fine.
-fn last_answer(scan: Scan, page: &[u8], words: &mut [u32]) -> Answer {
-    let mut s = scan;
+fn last_answer(first: Ran, page: &[u8], words: &mut [u32]) -> Answer {
+    let mut ran = first;
     let mut left = RUNS;
     while 0 < left {
-        let ran = s.run(page, words, ALLOWANCE);
         let answer = ran.answer;
         if !asks(answer) {
             return answer;
         }
         let told = ran.scan.give(Verdict::Fine);
-        s = told.scan;
+        let scan = told.scan;
+        ran = scan.run(page, words, ALLOWANCE);
         left = left - 1;
     }
-    s.answer()
+    ran.answer
 }
 
 fn asks(answer: Answer) -> bool {

@@ -100,6 +100,7 @@ impl Scan {
             _ => self.refusal(),
         }
     }
+
     // The answer of the scan as it stands: 12 for one that no call can have given.
     pub fn answer(self) -> Answer
         ensures { λ r. ⌜ saidBy r ≡ askedAnswer self ⌝ }

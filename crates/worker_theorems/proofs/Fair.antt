@@ -80,10 +80,6 @@ givable-parts s v e =
     let a = both (eqb (s .tokenizer .state) asking) _ e in
     (eqb-true (s .tokenizer .state) asking (a .0), both (verdictInRange v) _ (a .1) .0)
 
-and-true : (b : Bool) → (b && true) ≡ b
-and-true true = refl
-and-true false = refl
-
 -- what every state that calls give has
 pub record Good (len q : ℕ) (s : State) : Type 0 where
   pub ranged : Ranged len q (s .worker)
