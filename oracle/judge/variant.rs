@@ -3,7 +3,7 @@
 //! A judge built with one of them must be told from the product by the cases
 //! that are generated; else the comparison could not fail.
 
-/// A change in one function of a file.
+/// A change in one function or method of a file.
 pub struct Edit {
     pub file: String,
     function: String,
@@ -48,8 +48,7 @@ impl Edit {
         let head = format!("fn {function}(");
         assert_eq!(source.matches(&head).count(), 1, "functions `{function}`");
         let start = source.find(&head).expect("the function");
-        let len = source[start..].find("\n}\n").expect("its end");
-        let body = &source[start..start + len];
+        let body = &source[start..function_end(source, start)];
 
         let places: Vec<(usize, usize)> = (0..body.len())
             .filter(|at| body.is_char_boundary(*at))
@@ -60,6 +59,17 @@ impl Edit {
         };
         [&source[..*at], to, &source[at + len..]].concat()
     }
+}
+
+/// Where the function ends that has its head here: at the first brace that
+/// closes as far in as the line of the head begins. A method is further in than
+/// a function, and all that is inside either is further in still.
+fn function_end(source: &str, head: usize) -> usize {
+    let line = source[..head].rfind('\n').map_or(0, |at| at + 1);
+    let before = &source[line..head];
+    let indent = &before[..before.len() - before.trim_start().len()];
+    let end = format!("\n{indent}}}\n");
+    head + source[head..].find(&end).expect("the function's end")
 }
 
 /// How much of the text's beginning the fragment stands for.

@@ -1,5 +1,5 @@
 -- A verdict that says error is placed at the byte of the body that it names.
-use Prim.Native.Nat.{ℕ, _+_, _-_, _<_}
+use Prim.Native.Nat.{ℕ, _+_, _-_, _≤_, _<_}
 use native.Mathlib.Omega.{arith}
 use native.Mathlib.Nat.{add-zero}
 use mathlib.Core.Path.{_≡_, refl, sym, ap, _∙_}
@@ -23,19 +23,25 @@ use Rattle.base.specs.declared.Verdict.the-variants.{Wrong}
 use Rattle.body_places.specs.Body.{bytesAt, placeOf}
 use Rattle.events.specs.Words.{roomIn}
 use Rattle.events.proofs.Laws.{written-long}
+use Rattle.page.specs.Line.{lineOf, columnOf, lineAt}
 use Rattle.page.specs.Page.{pageOf}
 use Rattle.tokenizer.specs.Decision.{notAscii, expressionFault, esmFault, esmDecision, expressionDecision, stateDecision, decision}
 use Rattle.tokenizer.specs.Moved.{moved}
 use Rattle.tokenizer.specs.Ranges.{esm, largestNumber, verdictInRange}
 use Rattle.tokenizer.specs.declared.Job.{Job}
 use Rattle.scan.specs.declared.Scan.{Scan}
-use Rattle.scan.specs.Scan.{counted, choice, lacks, carriedOut, movedScan, stepScan, runScan, runEvents}
+use Rattle.scan.specs.Lines.{columnIn}
+use Rattle.scan.specs.Scan.{counted, choice, lacks, carriedOut, linesStep, movedScan, stepScan, runScan, runEvents}
 use Rattle.scan.specs.Answer.{said, answerOf, refusal, verdictRefusal}
-use Rattle.scan.specs.Call.{runnable, runOf, givable, givenScan, giveOf, freshScan}
+use Rattle.scan.specs.Call.{runnable, runOf, givable, givenScan, giveOf, freshIn}
 use Rattle.scan.specs.Statement.{Call, run, give, scanAfter, wordsAfter, eventsAfter}
 use Rattle.scan.proofs.Runs.{run-rest, run-more}
 use Rattle.scan.proofs.Kept.{run-job}
 use Rattle.scan.proofs.Begun.{begins}
+use Rattle.scan_theorems.proofs.Fresh.{length-short}
+use Rattle.scan_theorems.proofs.FaultPlaces.{expression-within, esm-within}
+use Rattle.scan_theorems.proofs.Lined.{column-is}
+use Rattle.scan_theorems.proofs.Parts.{parts}
 use Rattle.scan_theorems.proofs.Scans.{within-range, step-counted}
 use Rattle.mdx_collect.specs.Collect.{bodyPlaces, bodyOf}
 use Rattle.body_theorems.specs.Events.{Runs, runs, collectEvents}
@@ -110,11 +116,14 @@ module _ (page : List ℕ) (s : Scan) (r : Runs) (words : List ℕ) (h : Togethe
       ap (carriedOut given) decides
       ∙ sym (if-no Move (lacks given error) error (retry state.full Nothing) error (le-ltb (roomIn (given .tokenizer .job .words) - given .used) 0 (omega arith)) refl)
 
-  step-is : stepScan page given ≡ movedScan given error 0
-  unfolding stepScan
-  step-is = ap (λ (m : Move). movedScan given m (countOf (m .marks))) carried-out
+  abbrev afterError : Scan
+  afterError = movedScan given error 0 (linesStep page given error)
 
-  rests-then : state.rests (movedScan given error 0 .tokenizer .state) ≡ true
+  step-is : stepScan page given ≡ afterError
+  unfolding stepScan
+  step-is = ap (λ (m : Move). movedScan given m (countOf (m .marks)) (linesStep page given m)) carried-out
+
+  rests-then : state.rests (afterError .tokenizer .state) ≡ true
   unfolding moved
   rests-then = refl
 
@@ -122,13 +131,27 @@ module _ (page : List ℕ) (s : Scan) (r : Runs) (words : List ℕ) (h : Togethe
   unfolding stepScan givenScan
   counted-is = step-counted page given (still .within) goes
 
-  tells : answerOf (movedScan given error 0) ≡ said 8 (place ∷ number ∷ (s .used + 0) ∷ counted given ∷ [])
+  tells : answerOf afterError ≡ said 8 (place ∷ lineOf page place ∷ columnIn (lineAt page place) place ∷ number ∷ (s .used + 0) ∷ counted given ∷ [])
   unfolding answerOf refusal verdictRefusal find moved givenScan if_then_else_
   tells = refl
 
+  -- the byte at fault is a byte of the body, or the one that asked, so that its column is counted to the end
+  place-inside : place ≤ s .tokenizer .at
+  unfolding if_then_else_
+  place-inside =
+      case _ (eqb (s .tokenizer .job .construct) esm)
+      (λ c. rw c (esm-within page (s .tokenizer .at) (s .tokenizer .job .start) offset))
+      (λ c. rw c (expression-within page (s .tokenizer .at) (s .tokenizer .regs .body) offset))
+
+  column-there : columnIn (lineAt page place) place ≡ columnOf page place
+  column-there =
+      let p = parts (s .tokenizer) (h .within .sound .range) in
+      let short = length-short (s .tokenizer .job) (p .job) in
+      column-is page (omega (arith, short, h .within .sound .size)) place (omega (arith, place-inside, p .at, short))
+
   -- one step answers, and there is no other
-  run-is : (k : ℕ) → 0 < k → runScan page k given ≡ movedScan given error 0
-  run-is k p = run-more page given k p goes ∙ rw step-is (run-rest page (movedScan given error 0) (k - 1) rests-then)
+  run-is : (k : ℕ) → 0 < k → runScan page k given ≡ afterError
+  run-is k p = run-more page given k p goes ∙ rw step-is (run-rest page afterError (k - 1) rests-then)
 
   ran-is : (k : ℕ) → 0 < k → runOf page k given words .answer ≡ answerOf (runScan page k given)
   unfolding runOf runnable if_then_else_
@@ -141,15 +164,15 @@ module _ (page : List ℕ) (s : Scan) (r : Runs) (words : List ℕ) (h : Togethe
         within-range page given (still .within),
       )
 
-  error-answered : (k : ℕ) → 0 < k → errorAnswer page s words number offset k ≡ said 8 (place ∷ number ∷ s .used ∷ (s .steps + 1) ∷ [])
-  error-answered k p = ap (λ (x : Scan). runOf page k x words .answer) given-is ∙ ran-is k p ∙ ap answerOf (run-is k p) ∙ tells ∙ rw (counted-is, add-zero)
+  error-answered : (k : ℕ) → 0 < k → errorAnswer page s words number offset k ≡ said 8 (place ∷ lineOf page place ∷ columnOf page place ∷ number ∷ s .used ∷ (s .steps + 1) ∷ [])
+  error-answered k p = ap (λ (x : Scan). runOf page k x words .answer) given-is ∙ ran-is k p ∙ ap answerOf (run-is k p) ∙ tells ∙ rw (counted-is, add-zero, column-there)
 
 -- the byte at the place of a body's byte is that byte
 byte-placed : (page places : List ℕ) (r at : ℕ) → byteAt page (placeOf places r at) ≡ getD (bytesAt page places) r (byteAt page at)
 byte-placed page places r at = sym (List·getD-map (byteAt page) places r at)
 
 pub an-error-is-placed-at-its-byte : OfEveryAskingScan ErrorPlaced
-unfolding bodyOf freshScan
+unfolding bodyOf freshIn
 an-error-is-placed-at-its-byte bytes at n start construct kind flags lent s e calls over a number offset allowance k v p =
     let page = pageOf bytes at n in
     let last = scanAfter calls s lent in

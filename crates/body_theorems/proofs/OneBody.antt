@@ -18,7 +18,7 @@ use Rattle.page.specs.Page.{pageOf}
 use Rattle.tokenizer.specs.Ranges.{esm, tag, jobInRange, verdictInRange}
 use Rattle.tokenizer.specs.declared.Job.{Job}
 use Rattle.scan.specs.declared.Scan.{Scan}
-use Rattle.scan.specs.Call.{runnable, runOf, givable, givenScan, giveOf, freshScan, started, beginOf}
+use Rattle.scan.specs.Call.{runnable, runOf, givable, givenScan, giveOf, freshIn, freshScan, started, beginOf}
 use Rattle.scan.specs.Statement.{Call, run, give, scanAfter, callEvents, eventsAfter}
 use Rattle.scan.proofs.Begun.{begins}
 use Rattle.scan.proofs.Kept.{events-stay, events-are-read}
@@ -27,7 +27,8 @@ use Rattle.scan_theorems.proofs.Calls.{job-in-range}
 use Rattle.mdx_collect.specs.Collect.{onlyPrefix, bodyPlaces, bodyOf, asksIn, asked}
 use Rattle.mdx_collect.proofs.Laws.{nothing}
 use Rattle.body_theorems.specs.Events.{Runs, spanOf, runs, collectOn, collectEvents}
-use Rattle.body_theorems.specs.Statement.{linePlaces, OverPage, OfEveryAskingScan, OneBody}
+use Rattle.scan_theorems.specs.Lines.{OverPage}
+use Rattle.body_theorems.specs.Statement.{linePlaces, OfEveryAskingScan, OneBody}
 use Rattle.body_theorems.proofs.Fold.{collect-append}
 use Rattle.body_theorems.proofs.Places.{beyond}
 use Rattle.body_theorems.proofs.Kept.{Seam, Held, phaseOf}
@@ -68,8 +69,8 @@ together-calls page (give v ∷ calls) s words r o h = together-calls page calls
 
 -- ---- a new scan
 
-together-fresh : (page : List ℕ) (j : Job) → jobInRange j ≡ true → length page ≡ j .length → Together page (freshScan j) (runs [] 0)
-unfolding freshScan phaseOf blockPhaseOf find if_then_else_
+together-fresh : (page : List ℕ) (j : Job) → jobInRange j ≡ true → length page ≡ j .length → Together page (freshScan page j) (runs [] 0)
+unfolding freshIn phaseOf blockPhaseOf find if_then_else_
 together-fresh page j h l =
     record {
       within = within-fresh page j h l;

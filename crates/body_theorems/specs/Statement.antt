@@ -14,12 +14,14 @@ use Rattle.base.specs.declared.Verdict.the-variants.{Wrong}
 use Rattle.body_places.specs.Body.{expressionPlaces, esmPlaces, bytesAt, placeOf}
 use Rattle.events.specs.declared.Event.{Event}
 use Rattle.events.specs.Words.{eventsIn}
+use Rattle.page.specs.Line.{lineOf, columnOf}
 use Rattle.page.specs.Page.{pageOf}
 use Rattle.tokenizer.specs.Ranges.{esm, largestNumber}
 use Rattle.scan.specs.declared.Scan.{Scan}
 use Rattle.scan.specs.Answer.{Said, said}
 use Rattle.scan.specs.Call.{started, beginOf, runOf, giveOf}
 use Rattle.scan.specs.Statement.{Call, run, give, scanAfter, wordsAfter, eventsAfter}
+use Rattle.scan_theorems.specs.Lines.{OverPage}
 use Rattle.mdx_collect.specs.Collect.{asked, bodyPlaces, bodyOf}
 use Rattle.body_theorems.specs.Events.{eventBody}
 
@@ -36,12 +38,6 @@ abbrev pub lineBody : List ℕ → Scan → List ℕ
 lineBody page s = bytesAt page (linePlaces page s)
 
 -- ---- the promise
-
--- each run of the calls is over this page
-abbrev pub OverPage : List ℕ → List Call → Type 0
-OverPage page [] = Unit {0}
-OverPage page (run over k ∷ calls) = (over ≡ page) × OverPage page calls
-OverPage page (give v ∷ calls) = OverPage page calls
 
 -- A scan begins on a page, any calls are made over that page, whatever they answer, and it asks: what holds of the page, the scan, its event words
 -- and its events.
@@ -69,11 +65,11 @@ errorAnswer page s words number r allowance = runOf page allowance (giveOf s (Wr
 abbrev pub errorPlace : List ℕ → Scan → ℕ → ℕ
 errorPlace page s r = placeOf (bodyPlaces page s) r (s .tokenizer .at)
 
--- it answers 8 with that place, the verdict's number, its event count and one step more, whatever the allowance; and the byte at that place is the
+-- it answers 8 with that place, its line and column, the verdict's number, its event count and one step more, whatever the allowance; and the byte at that place is the
 -- body's byte r, or the byte that asked
 abbrev pub ErrorPlaced : List ℕ → Scan → List ℕ → List Event → Type 0
 ErrorPlaced page s words events =
     (number r allowance : ℕ) → s .tokenizer .state ≡ asking → within 1 largestNumber number ≡ true → 0 < allowance
     → let place = errorPlace page s r in
-    (errorAnswer page s words number r allowance ≡ said 8 (place ∷ number ∷ s .used ∷ (s .steps + 1) ∷ []))
+    (errorAnswer page s words number r allowance ≡ said 8 (place ∷ lineOf page place ∷ columnOf page place ∷ number ∷ s .used ∷ (s .steps + 1) ∷ []))
     × (byteAt page place ≡ getD (bodyOf page s) r (byteAt page (s .tokenizer .at)))

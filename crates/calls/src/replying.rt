@@ -44,7 +44,7 @@ fn put_no_place(out: &mut [u8], used: usize) -> usize {
 
 fn put_answer(told: Told, out: &mut [u8], used: usize) -> usize {
     let at = report::make_room(out, used, ANSWER_ROOM);
-    report::answer_text(out, at, told)
+    report::answer_text(out, at, told, b":")
 }
 
 // A finished page's answer carries its counts; a verdict kept and a refusal carry none.

@@ -13,7 +13,7 @@ use lines::put_totals;
 
 // Room for the longest line, a page, a body, the words of six events for each byte and the page's end, an answer with its body in
 // hex, and what is about to be written.
-const LINE_ROOM: usize = 3_145_728;
+const LINE_ROOM: usize = 1_572_864;
 
 const PAGE_ROOM: usize = 60_000;
 

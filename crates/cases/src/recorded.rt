@@ -9,8 +9,18 @@ use text::ReadNumber;
 // A name that is no answer's.
 const NO_NAME: u8 = 255;
 
-// What Asking carries: a place and the body.
-const PLACE_AND_BODY: u8 = 4;
+// What the answers carry: nothing, an end, or a place, behind which numbers or a body may stand.
+const NOTHING: u8 = 0;
+
+const END: u8 = 1;
+
+const PLACE: u8 = 2;
+
+const PLACE_AND_NUMBER: u8 = 3;
+
+const PLACE_AND_TWO: u8 = 4;
+
+const PLACE_AND_BODY: u8 = 5;
 
 pub(crate) fn is_answer(line: &[u8], from: usize) -> bool {
     let at = after_answer(line, from);
@@ -32,16 +42,39 @@ fn after_answer(line: &[u8], from: usize) -> usize {
     let end = text::find(line, from, b' ');
     let next = end + 1;
     match values_of(line, from, end) {
-        0 => next,
-        1 => after_number(line, next),
-        2 => after_number(line, after_number(line, next)),
-        3 => {
-            let second = after_number(line, next);
-            after_number(line, after_number(line, second))
+        NOTHING => next,
+        END => after_number(line, next),
+        PLACE => after_place(line, next),
+        PLACE_AND_NUMBER => after_number(line, after_place(line, next)),
+        PLACE_AND_TWO => {
+            let second = after_number(line, after_place(line, next));
+            after_number(line, second)
         }
-        PLACE_AND_BODY => after_bytes(line, after_number(line, next)),
+        PLACE_AND_BODY => after_bytes(line, after_place(line, next)),
         _ => 0,
     }
+}
+
+// A place with its line and column.
+fn after_place(line: &[u8], from: usize) -> usize {
+    let end = text::find(line, from, b' ');
+    if is_place(line, from, end) {
+        return end + 1;
+    }
+    0
+}
+
+// `PLACE:LINE:COLUMN`
+fn is_place(line: &[u8], from: usize, to: usize) -> bool {
+    let first = text::find(line, from, b':');
+    if !is_number(text::decimal(line, from, first)) {
+        return false;
+    }
+    let second = text::find(line, first + 1, b':');
+    if !is_number(text::decimal(line, first + 1, second)) {
+        return false;
+    }
+    is_number(text::decimal(line, second + 1, to))
 }
 
 fn after_number(line: &[u8], from: usize) -> usize {
@@ -68,16 +101,16 @@ fn after_bytes(line: &[u8], from: usize) -> usize {
     }
 }
 
-// How many values the answer of a name carries.
+// What the answer of a name carries.
 fn values_of(line: &[u8], from: usize, to: usize) -> u8 {
     if text::is_word(line, from, to, b"Done") {
-        return 1;
+        return END;
     }
     if text::is_word(line, from, to, b"Nok") {
-        return 0;
+        return NOTHING;
     }
     if text::is_word(line, from, to, b"Unexpected") {
-        return 3;
+        return PLACE_AND_TWO;
     }
     if text::is_word(line, from, to, b"Asking") {
         return PLACE_AND_BODY;
@@ -87,35 +120,35 @@ fn values_of(line: &[u8], from: usize, to: usize) -> u8 {
 
 fn values_of_refusal(line: &[u8], from: usize, to: usize) -> u8 {
     if text::is_word(line, from, to, b"Eof") {
-        return 2;
+        return PLACE_AND_NUMBER;
     }
     if text::is_word(line, from, to, b"VerdictError") {
-        return 2;
+        return PLACE_AND_NUMBER;
     }
     if text::is_word(line, from, to, b"VerdictEof") {
-        return 2;
+        return PLACE_AND_NUMBER;
     }
     if text::is_word(line, from, to, b"NotAscii") {
-        return 1;
+        return PLACE;
     }
     if text::is_word(line, from, to, b"Full") {
-        return 1;
+        return PLACE;
     }
     values_of_other(line, from, to)
 }
 
 fn values_of_other(line: &[u8], from: usize, to: usize) -> u8 {
     if text::is_word(line, from, to, b"BadText") {
-        return 1;
+        return PLACE;
     }
     if text::is_word(line, from, to, b"TooLong") {
-        return 0;
+        return NOTHING;
     }
     if text::is_word(line, from, to, b"BadStart") {
-        return 0;
+        return NOTHING;
     }
     if text::is_word(line, from, to, b"BadCall") {
-        return 0;
+        return NOTHING;
     }
     NO_NAME
 }
@@ -136,7 +169,7 @@ fn all_marks(line: &[u8], from: usize) -> bool {
     true
 }
 
-// `+` or `-`, a name, `@` and an offset.
+// `+` or `-`, a name, `@` and an offset with its line and column.
 fn is_mark(line: &[u8], from: usize, to: usize) -> bool {
     if line.len() <= from {
         return false;
@@ -148,7 +181,7 @@ fn is_mark(line: &[u8], from: usize, to: usize) -> bool {
     if mark == from + 1 {
         return false;
     }
-    is_number(text::decimal(line, mark + 1, to))
+    is_place(line, mark + 1, to)
 }
 
 fn is_sign(byte: u8) -> bool {

@@ -60,7 +60,7 @@ pub(crate) fn run_case(
 fn told_outcome(told: Told, piece: &mut [u8]) -> Outcome
     ensures { λ r. ⌜ r .length ≤ length (now (piece .exit)) ⌝ }
 {
-    let length = report::answer_text(piece, 0, told);
+    let length = report::answer_text(piece, 0, told, b":");
     Outcome { told, length }
 }
 

@@ -15,27 +15,28 @@ use Rattle.base.specs.declared.Mark.the-variants.{Enter, Exit, Leave}
 use Rattle.base.specs.declared.Marks.{Marks}
 use Rattle.base.specs.declared.Marks.the-variants.{Nothing, One, Two, Three, Four}
 use Rattle.base.specs.Decide.{listOf, countOf}
+use Rattle.events.specs.declared.Point.{Point}
 use Rattle.events.specs.declared.Event.{Event}
-use Rattle.events.specs.Event.{event, eventAt, eventsAt}
+use Rattle.events.specs.Event.{point, event, pointOf, eventsAt}
 use Rattle.events.specs.Words.{width, kindWord, encode, written, markWord, eventIn, eventsIn}
 
 -- ---- counts
 
-pub count-is : (m : Marks) (at : ℕ) → length (eventsAt at (listOf m)) ≡ countOf m
-count-is Nothing at = refl
-count-is (One a) at = refl
-count-is (Two a b) at = refl
-count-is (Three a b c) at = refl
-count-is (Four a b c d) at = refl
+pub count-is : (m : Marks) (here past : Point) → length (eventsAt here past (listOf m)) ≡ countOf m
+count-is Nothing here past = refl
+count-is (One a) here past = refl
+count-is (Two a b) here past = refl
+count-is (Three a b c) here past = refl
+count-is (Four a b c d) here past = refl
 
--- an event has two words
+-- an event has four words
 pub encode-long : (es : List Event) → length (encode es) ≡ length es * width
 encode-long [] = refl
 encode-long (e ∷ es) = omega (arith, encode-long es)
 
 pub encode-append : (a b : List Event) → encode (a ++ b) ≡ encode a ++ encode b
 encode-append [] b = refl
-encode-append (e ∷ a) b = ap (λ (l : List ℕ). kindWord (e .kind) (e .exit) ∷ e .offset ∷ l) (encode-append a b)
+encode-append (e ∷ a) b = ap (λ (l : List ℕ). kindWord (e .kind) (e .exit) ∷ e .offset ∷ e .line ∷ e .column ∷ l) (encode-append a b)
 
 -- ---- writing
 
@@ -72,14 +73,25 @@ written-is words k es h =
 
 -- ---- the words of one mark
 
-pub one-written : (words : List ℕ) (k at : ℕ) (m : Mark) → set (set words (k * 2) (markWord m)) (k * 2 + 1) (eventAt at m .offset) ≡ written words k (eventsAt at (m ∷ []))
-unfolding written
-one-written words k at m = ap (λ (i : ℕ). set (set words (k * 2) (markWord m)) i (eventAt at m .offset)) (add-one (k * 2)) ∙ same m
-  where
-    same : (m : Mark) → set (set words (k * 2) (markWord m)) (suc (k * 2)) (eventAt at m .offset) ≡ sets words (k * width) (encode (eventsAt at (m ∷ [])))
-    same (Enter kind) = refl
-    same (Exit kind) = refl
-    same (Leave kind) = refl
+-- the words of an event, stored one after the other
+stored : List ℕ → ℕ → ℕ → Point → List ℕ
+stored words i first p = set (set (set (set words i first) (i + 1) (p .offset)) (i + 2) (p .line)) (i + 3) (p .column)
+
+stored-is : (words : List ℕ) (i first : ℕ) (p : Point) → stored words i first p ≡ sets words i (first ∷ p .offset ∷ p .line ∷ p .column ∷ [])
+unfolding stored
+stored-is words i first p =
+    let e₁ : i + 1 ≡ suc i = omega arith in
+    let e₂ : i + 2 ≡ suc (suc i) = omega arith in
+    let e₃ : i + 3 ≡ suc (suc (suc i)) = omega arith in
+    rw (e₁, e₂, e₃)
+
+pub one-written : (words : List ℕ) (k : ℕ) (here past : Point) (m : Mark) →
+    set (set (set (set words (k * 4) (markWord m)) (k * 4 + 1) (pointOf here past m .offset)) (k * 4 + 2) (pointOf here past m .line)) (k * 4 + 3) (pointOf here past m .column)
+    ≡ written words k (eventsAt here past (m ∷ []))
+unfolding stored written
+one-written words k here past (Enter kind) = stored-is words (k * 4) (kind * 2) here
+one-written words k here past (Exit kind) = stored-is words (k * 4) (kind * 2 + 1) here
+one-written words k here past (Leave kind) = stored-is words (k * 4) (kind * 2 + 1) past
 
 -- ---- reading what was written
 
@@ -95,22 +107,23 @@ even k = ne-eqb (k * 2 % 2) 1 (λ e. omega arith)
 odd : (k : ℕ) → eqb ((k * 2 + 1) % 2) 1 ≡ true
 odd k = eq-eqb ((k * 2 + 1) % 2) 1 (omega arith)
 
--- the two words of an event say it
-said : (kind : ℕ) (exit : Bool) (offset : ℕ) → event (kindWord kind exit / 2) (eqb (kindWord kind exit % 2) 1) offset ≡ event kind exit offset
-said kind false offset = rw (double, even)
-said kind true offset = rw (double-one, odd)
+-- the words of an event say it
+said : (kind : ℕ) (exit : Bool) (p : Point) → event (kindWord kind exit / 2) (eqb (kindWord kind exit % 2) 1) p ≡ event kind exit p
+said kind false p = rw (double, even)
+said kind true p = rw (double-one, odd)
 
 -- event k, behind k others
-read-one : (before : List Event) (e : Event) (rest : List ℕ) → eventIn (encode before ++ kindWord (e .kind) (e .exit) ∷ e .offset ∷ rest) (length before) ≡ e
+read-one : (before : List Event) (e : Event) (rest : List ℕ) → eventIn (encode before ++ kindWord (e .kind) (e .exit) ∷ e .offset ∷ e .line ∷ e .column ∷ rest) (length before) ≡ e
 read-one before e rest =
     let first = kindWord (e .kind) (e .exit) in
-    let words = encode before ++ first ∷ e .offset ∷ rest in
+    let four = first ∷ e .offset ∷ e .line ∷ e .column ∷ rest in
+    let words = encode before ++ four in
     let l = encode-long before in
-    let p : getD words (length before * width) 0 ≡ first =
-    ap (λ (i : ℕ). getD words i 0) (omega (arith, l)) ∙ getD-append-add (encode before) (first ∷ e .offset ∷ rest) 0 0 in
-    let q : getD words (length before * width + 1) 0 ≡ e .offset =
-    ap (λ (i : ℕ). getD words i 0) (omega (arith, l)) ∙ getD-append-add (encode before) (first ∷ e .offset ∷ rest) 1 0 in
-    ap₂ (λ (f o : ℕ). event (f / 2) (eqb (f % 2) 1) o) p q ∙ said (e .kind) (e .exit) (e .offset)
+    let w : (j : ℕ) → getD words (length before * width + j) 0 ≡ getD four j 0 =
+    λ j. ap (λ (i : ℕ). getD words i 0) (omega (arith, l)) ∙ getD-append-add (encode before) four j 0 in
+    let p : getD words (length before * width) 0 ≡ first = ap (λ (i : ℕ). getD words i 0) (omega arith) ∙ w 0 in
+    ap (λ (f : ℕ). event (f / 2) (eqb (f % 2) 1) (point (getD words (length before * width + 1) 0) (getD words (length before * width + 2) 0) (getD words (length before * width + 3) 0))) p
+    ∙ rw (w 1, w 2, w 3) (said (e .kind) (e .exit) (point (e .offset) (e .line) (e .column)))
 
 read-from : (before es : List Event) (rest : List ℕ) → eventsIn (encode before ++ (encode es ++ rest)) (length before) (length es) ≡ es
 unfolding eventsIn

@@ -1,5 +1,5 @@
--- The share of a place. docs/SCOPE.md, 'The worker': "The event buffer is cut in sixteen equal shares, a place holding its length in words
--- divided by 32, rounded down, events."
+-- The share of a place. docs/SCOPE.md, 'The worker': "The event buffer is cut in sixteen equal shares", and 'Line and column': "A place's
+-- share becomes the buffer's words divided by 64, rounded down", events.
 use Prim.Native.Nat.{ℕ, _*_, _/_}
 use mathlib.Core.List.{List, _++_}
 use lib.ListN.{take, drop}

@@ -1,5 +1,5 @@
--- Events in lent words. docs/SCOPE.md, 'The answer table': "An event is two 32-bit words: kind times 2, plus 1 for an exit; then the
--- byte offset, counted like all places from the page's first byte."
+-- Events in lent words. docs/SCOPE.md, 'Line and column': "An event is four 32-bit words: kind times 2, plus 1 for an exit; then the byte
+-- offset, counted like all places from the page's first byte; then its line and its column."
 use Prim.Native.Nat.{ℕ, zero, suc, _+_, _*_, _/_, _%_}
 use mathlib.Core.Bool.{Bool, true, false}
 use mathlib.Core.List.{List, [], _∷_}
@@ -7,12 +7,13 @@ use lib.Dec.{eqb}
 use lib.ListN.{getD}
 use lib.Seq.{sets}
 use Rattle.base.specs.declared.Mark.{Mark}
+use Rattle.base.specs.declared.Mark.the-variants.{Enter, Exit, Leave}
 use Rattle.events.specs.declared.Event.{Event}
-use Rattle.events.specs.Event.{event, eventAt}
+use Rattle.events.specs.Event.{point, event}
 
 -- the words of an event
 abbrev pub width : ℕ
-width = 2
+width = 4
 
 -- how many events fit in a buffer of so many words
 abbrev pub roomIn : ℕ → ℕ
@@ -26,7 +27,7 @@ kindWord kind true = kind * 2 + 1
 
 abbrev pub encode : List Event → List ℕ
 encode [] = []
-encode (e ∷ es) = kindWord (e .kind) (e .exit) ∷ e .offset ∷ encode es
+encode (e ∷ es) = kindWord (e .kind) (e .exit) ∷ e .offset ∷ e .line ∷ e .column ∷ encode es
 
 -- the words with these events from event k on; all else is as it was
 unfoldable pub written : List ℕ → ℕ → List Event → List ℕ
@@ -34,7 +35,9 @@ written words k es = sets words (k * width) (encode es)
 
 -- the first word of a mark's event
 abbrev pub markWord : Mark → ℕ
-markWord mark = kindWord (eventAt 0 mark .kind) (eventAt 0 mark .exit)
+markWord (Enter kind) = kindWord kind false
+markWord (Exit kind) = kindWord kind true
+markWord (Leave kind) = kindWord kind true
 
 -- ---- reading
 
@@ -42,7 +45,7 @@ markWord mark = kindWord (eventAt 0 mark .kind) (eventAt 0 mark .exit)
 abbrev pub eventIn : List ℕ → ℕ → Event
 eventIn words k =
     let first = getD words (k * width) 0 in
-    event (first / 2) (eqb (first % 2) 1) (getD words (k * width + 1) 0)
+    event (first / 2) (eqb (first % 2) 1) (point (getD words (k * width + 1) 0) (getD words (k * width + 2) 0) (getD words (k * width + 3) 0))
 
 -- n events of it, from event k on
 unfoldable pub eventsIn : List ℕ → ℕ → ℕ → List Event

@@ -3,10 +3,10 @@ use base::Mark;
 use base::Marks;
 ghost use mathlib.Core.Path.{_≡_};
 ghost use mathlib.Core.List.{[], _∷_};
-ghost use Prim.Native.Nat.{_+_, _*_, _≤_, _<_, _^_};
+ghost use Prim.Native.Nat.{_+_, _*_, _≤_};
 ghost use lib.ListN.{length, getD};
 ghost use Rattle.base.specs.Decide.{countOf, listOf};
-ghost use Rattle.events.specs.Event.{eventAt, eventsAt};
+ghost use Rattle.events.specs.Event.{pointOf, eventsAt};
 ghost use Rattle.events.specs.Words.{roomIn, markWord, written, eventIn};
 
 pub mod room;
@@ -14,13 +14,22 @@ pub mod share;
 pub mod span;
 
 // The words of an event.
-pub const WIDTH: usize = 2;
+pub const WIDTH: usize = 4;
+
+// A place of the page, with its line and column: the Rust's `Point`.
+pub struct Point {
+    pub offset: u32,
+    pub line: u32,
+    pub column: u32,
+}
 
 // An event: what is entered or left, and where.
 pub struct Event {
     pub kind: u32,
     pub exit: bool,
     pub offset: u32,
+    pub line: u32,
+    pub column: u32,
 }
 
 // How many events fit in so many words.
@@ -61,15 +70,21 @@ pub fn read(words: &[u32], k: usize) -> Event
             kind: 0,
             exit: false,
             offset: 0,
+            line: 0,
+            column: 0,
         };
     }
     let i = k * WIDTH;
     let first = word_at(words, i);
     let offset = word_at(words, i + 1);
+    let line = word_at(words, i + 2);
+    let column = word_at(words, i + 3);
     Event {
         kind: first / 2,
         exit: first % 2 == 1,
         offset,
+        line,
+        column,
     }
 }
 
@@ -92,65 +107,75 @@ fn kind_word(mark: Mark) -> u32
     }
 }
 
-// The offset of a mark's event, of a step at a place.
-fn offset_word(at: u32, mark: Mark) -> u32
-    requires { ⌜ at < 2 ^ 31 ⌝ }
-    ensures { λ r. ⌜ r ≡ eventAt at mark .offset ⌝ }
+// Where the event of a mark stands: at the step's place, or one byte past it.
+fn point_of(here: Point, past: Point, mark: Mark) -> Point
+    ensures { λ r. ⌜ r ≡ pointOf here past mark ⌝ }
 {
     match mark {
-        Mark::Enter(_) => at,
-        Mark::Exit(_) => at,
-        Mark::Leave(_) => at + 1,
+        Mark::Enter(_) => here,
+        Mark::Exit(_) => here,
+        Mark::Leave(_) => past,
     }
 }
 
 // One event, as event k.
-fn put_one(words: &mut [u32], k: usize, at: u32, mark: Mark)
-    requires { ⌜ ((k + 1) * 2 ≤ length (now words)) × (at < 2 ^ 31) ⌝ }
-    ensures { λ _. ⌜ now (words .exit) ≡ written (now (words .entry)) k (eventsAt at (mark ∷ [])) ⌝ }
+fn put_one(words: &mut [u32], k: usize, here: Point, past: Point, mark: Mark)
+    requires { ⌜ (k + 1) * 4 ≤ length (now words) ⌝ }
+    ensures { λ _. ⌜ now (words .exit) ≡ written (now (words .entry)) k (eventsAt here past (mark ∷ [])) ⌝ }
 {
     let i = k * WIDTH;
     let first = kind_word(mark);
-    let offset = offset_word(at, mark);
+    let point = point_of(here, past, mark);
     words[i] = first;
-    words[i + 1] = offset;
+    words[i + 1] = point.offset;
+    words[i + 2] = point.line;
+    words[i + 3] = point.column;
 }
 
 // Two, three and four events, from event k on.
-fn put_two(words: &mut [u32], k: usize, at: u32, a: Mark, b: Mark)
-    requires { ⌜ ((k + 2) * 2 ≤ length (now words)) × (at < 2 ^ 31) ⌝ }
-    ensures { λ _. ⌜ now (words .exit) ≡ written (now (words .entry)) k (eventsAt at (a ∷ b ∷ [])) ⌝ }
+fn put_two(words: &mut [u32], k: usize, here: Point, past: Point, a: Mark, b: Mark)
+    requires { ⌜ (k + 2) * 4 ≤ length (now words) ⌝ }
+    ensures { λ _. ⌜ now (words .exit) ≡ written (now (words .entry)) k (eventsAt here past (a ∷ b ∷ [])) ⌝ }
 {
-    put_one(words, k, at, a);
-    put_one(words, k + 1, at, b);
+    put_one(words, k, here, past, a);
+    put_one(words, k + 1, here, past, b);
 }
 
-fn put_three(words: &mut [u32], k: usize, at: u32, a: Mark, b: Mark, c: Mark)
-    requires { ⌜ ((k + 3) * 2 ≤ length (now words)) × (at < 2 ^ 31) ⌝ }
-    ensures { λ _. ⌜ now (words .exit) ≡ written (now (words .entry)) k (eventsAt at (a ∷ b ∷ c ∷ [])) ⌝ }
+fn put_three(words: &mut [u32], k: usize, here: Point, past: Point, a: Mark, b: Mark, c: Mark)
+    requires { ⌜ (k + 3) * 4 ≤ length (now words) ⌝ }
+    ensures { λ _. ⌜ now (words .exit) ≡ written (now (words .entry)) k (eventsAt here past (a ∷ b ∷ c ∷ [])) ⌝ }
 {
-    put_one(words, k, at, a);
-    put_two(words, k + 1, at, b, c);
+    put_one(words, k, here, past, a);
+    put_two(words, k + 1, here, past, b, c);
 }
 
-fn put_four(words: &mut [u32], k: usize, at: u32, a: Mark, b: Mark, c: Mark, d: Mark)
-    requires { ⌜ ((k + 4) * 2 ≤ length (now words)) × (at < 2 ^ 31) ⌝ }
-    ensures { λ _. ⌜ now (words .exit) ≡ written (now (words .entry)) k (eventsAt at (a ∷ b ∷ c ∷ d ∷ [])) ⌝ }
+fn put_four(
+    words: &mut [u32],
+    k: usize,
+    here: Point,
+    past: Point,
+    a: Mark,
+    b: Mark,
+    c: Mark,
+    d: Mark,
+)
+    requires { ⌜ (k + 4) * 4 ≤ length (now words) ⌝ }
+    ensures { λ _. ⌜ now (words .exit) ≡ written (now (words .entry)) k (eventsAt here past (a ∷ b ∷ c ∷ d ∷ [])) ⌝ }
 {
-    put_one(words, k, at, a);
-    put_three(words, k + 1, at, b, c, d);
+    put_one(words, k, here, past, a);
+    put_three(words, k + 1, here, past, b, c, d);
 }
 
-// The events of one step at a place, from event k on.
-pub fn put(words: &mut [u32], k: usize, at: u32, marks: Marks)
-    requires { ⌜ ((k + countOf marks) * 2 ≤ length (now words)) × (at < 2 ^ 31) ⌝ }
-    ensures { λ _. ⌜ now (words .exit) ≡ written (now (words .entry)) k (eventsAt at (listOf marks)) ⌝ }
+// The events of one step, from event k on: `here` is the step's place, `past` one byte past it.
+pub fn put(words: &mut [u32], k: usize, here: Point, past: Point, marks: Marks)
+    requires { ⌜ (k + countOf marks) * 4 ≤ length (now words) ⌝ }
+    ensures { λ _. ⌜ now (words .exit) ≡ written (now (words .entry)) k (eventsAt here past (listOf marks)) ⌝ }
 {
     match marks {
         Marks::Nothing => {}
-        Marks::One(a) => put_one(words, k, at, a),
-        Marks::Two(a, b) => put_two(words, k, at, a, b),
-        Marks::Three(a, b, c) => put_three(words, k, at, a, b, c),
-        Marks::Four(a, b, c, d) => put_four(words, k, at, a, b, c, d),
+        Marks::One(a) => put_one(words, k, here, past, a),
+        Marks::Two(a, b) => put_two(words, k, here, past, a, b),
+        Marks::Three(a, b, c) => put_three(words, k, here, past, a, b, c),
+        Marks::Four(a, b, c, d) => put_four(words, k, here, past, a, b, c, d),
     }
 }

@@ -73,7 +73,7 @@ fn list_answer(told: Told, words: &[u32], out: &mut [u8]) {
 
 // The answer in lower case, and its steps and event count where it carries them.
 fn first_line(out: &mut [u8], told: Told) -> usize {
-    let end = report::answer_text(out, 0, told);
+    let end = report::answer_text(out, 0, told, b" ");
     report::in_small(&mut out[0..end]);
     let at = report::value(out, end, told.counted, told.steps);
     let at = report::value(out, at, told.counted, told.events);

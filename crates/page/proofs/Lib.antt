@@ -4,3 +4,5 @@ pub mod Reading
 pub mod Sequences
 pub mod Meaning
 pub mod Answers
+pub mod Lines
+pub mod Passing

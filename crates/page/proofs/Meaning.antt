@@ -1,6 +1,6 @@
 -- What a reading of a text means, both ways, with no word of how it is read:
---     good-is    it answers Good exactly where the text is well-formed and holds no carriage return
---     bad-is     it answers BadText o exactly where o is the first fault
+--     good-is    it finds no fault exactly where the text is well-formed and holds no carriage return
+--     bad-is     it finds the fault o exactly where o is the first fault
 --     one-first  a text has at most one first fault
 use Prim.Native.Nat.{ℕ, zero, suc, _+_, _≤_}
 use native.Mathlib.Nat.{le-refl, not-suc-le-zero}
@@ -15,11 +15,9 @@ use lib.ListN.{length, take, drop, length-append, length-drop, take-append-drop}
 use lib.Seq.{length-take-le, take-add, drop-drop, getD-drop, drop-append-seam}
 use Rattle.base.specs.Byte.{carriageReturn}
 use Rattle.base.proofs.Choice.{case, or-yes, or-yes′}
-use Rattle.page.specs.declared.Checked.{Checked}
-use Rattle.page.specs.declared.Checked.the-variants.{Good, TooLong, BadStart, BadText}
 use Rattle.page.specs.Utf8.{table, sequence, Begins, Sequence, WellFormed}
 use Rattle.page.specs.Utf8.WellFormed.{empty, more}
-use Rattle.page.specs.Text.{readFrom, readText, NoReturn, GoodText, FirstFault}
+use Rattle.page.specs.Text.{Reading, good, fault, readFrom, readText, NoReturn, GoodText, FirstFault}
 use Rattle.page.proofs.Rows.{found}
 use Rattle.page.proofs.Reading.{stopsAt, passes, halts, sequence-length, halts-return, halts-ill}
 use Rattle.page.proofs.Sequences.{begins-append, by-its-row, ill, ill-back, first-sequence, plain-sequence}
@@ -50,20 +48,16 @@ nothing-good = record { formed = empty; plain = List·Memᴰ·not-nil }
 good-more : (s : List ℕ) {t : List ℕ} → Sequence s → NoReturn s → GoodText t → GoodText (s ++ t)
 good-more s q f g = record { formed = more q (g .formed); plain = λ m. ⊎-elim f (g .plain) (List·Memᴰ·append-cases s m) }
 
--- what an answer says of the text from the offset `at` on
-abbrev Means : ℕ → List ℕ → Checked → Type 0
-Means at t Good = GoodText t
-Means at t TooLong = ⊥
-Means at t BadStart = ⊥
-Means at t (BadText o) = (k : ℕ) × (o ≡ at + k) × FirstFault t k
+-- what is found says of the text from the offset `at` on
+abbrev Means : ℕ → List ℕ → Reading → Type 0
+Means at t good = GoodText t
+Means at t (fault o) = (k : ℕ) × (o ≡ at + k) × FirstFault t k
 
 -- after a first sequence of n bytes the meaning is that of the rest
 after : (at n : ℕ) (t : List ℕ) → n ≤ length t → Sequence (take n t) → NoReturn (take n t) →
-    (x : Checked) → Means (at + n) (drop n t) x → Means at t x
-after at n t l q f Good g = subst GoodText (take-append-drop n t) (good-more (take n t) q f g)
-after at n t l q f TooLong g = g
-after at n t l q f BadStart g = g
-after at n t l q f (BadText o) g =
+    (x : Reading) → Means (at + n) (drop n t) x → Means at t x
+after at n t l q f good g = subst GoodText (take-append-drop n t) (good-more (take n t) q f g)
+after at n t l q f (fault o) g =
     let k = g .0 in
     let inner = g .2 in
     let e = g .1 in (
@@ -110,21 +104,14 @@ meaning (suc n) at (b ∷ t) h =
 
 -- ---- the theorems
 
--- a reading answers with nothing else
-pub never-long : (t : List ℕ) → readText t ≡ TooLong → ⊥
-never-long t e = subst (Means 0 t) e (meaning (length t) 0 t (le-refl (length t)))
-
-pub never-start : (t : List ℕ) → readText t ≡ BadStart → ⊥
-never-start t e = subst (Means 0 t) e (meaning (length t) 0 t (le-refl (length t)))
-
-pub good-is : (t : List ℕ) → (readText t ≡ Good) ↔ GoodText t
+pub good-is : (t : List ℕ) → (readText t ≡ good) ↔ GoodText t
 unfolding readFrom
 good-is t = (
   λ e. subst (Means 0 t) e (meaning (length t) 0 t (le-refl (length t))),
   λ g. ap (readFrom 0 0) (sym (append-nil t)) ∙ goes-through (g .formed) [] 0 (g .plain),
 )
 
-fault-read : (t : List ℕ) (o : ℕ) → FirstFault t o → readText t ≡ BadText o
+fault-read : (t : List ℕ) (o : ℕ) → FirstFault t o → readText t ≡ fault o
 fault-read t o f =
     let h = f .here in
     let long : length (take o t) ≡ o = length-take-le o t (omega arith) in
@@ -134,7 +121,7 @@ fault-read t o f =
     ∙ ap (λ (n : ℕ). readFrom 0 n (drop o t)) there
     ∙ sym (⊎-elim (λ e. halts-return t o h e) (λ e. halts-ill t o h (ill (drop o t) e)) (f .fault))
 
-pub bad-is : (t : List ℕ) (o : ℕ) → (readText t ≡ BadText o) ↔ FirstFault t o
+pub bad-is : (t : List ℕ) (o : ℕ) → (readText t ≡ fault o) ↔ FirstFault t o
 bad-is t o = (
   λ e.
       let m = subst (Means 0 t) e (meaning (length t) 0 t (le-refl (length t))) in

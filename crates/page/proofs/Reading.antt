@@ -10,10 +10,8 @@ use lib.ListN.{length, getD, drop, length-drop}
 use lib.Seq.{drop-drop}
 use Rattle.base.specs.Byte.{carriageReturn}
 use Rattle.base.proofs.Choice.{if-yes, if-no, or-yes, or-yes′, or-no, both}
-use Rattle.page.specs.declared.Checked.{Checked}
-use Rattle.page.specs.declared.Checked.the-variants.{BadText}
 use Rattle.page.specs.Utf8.{Row, holds, table, begins, sequence}
-use Rattle.page.specs.Text.{readFrom}
+use Rattle.page.specs.Text.{Reading, fault, readFrom}
 use Rattle.page.proofs.Rows.{found}
 use Rattle.page.proofs.Places.{from-place}
 
@@ -33,16 +31,16 @@ pub passes : (b : ℕ) (t : List ℕ) (at n : ℕ) → (b ≡ carriageReturn →
 unfolding readFrom
 passes b t at n h e =
     let z : sequence (b ∷ t) ≡ 0 → ⊥ = λ q. omega arith in
-    sym (if-no Checked (stopsAt (b ∷ t) b) (readFrom (sequence (b ∷ t) - 1) (at + 1) t) (BadText at)
+    sym (if-no Reading (stopsAt (b ∷ t) b) (readFrom (sequence (b ∷ t) - 1) (at + 1) t) (fault at)
     (readFrom (sequence (b ∷ t) - 1) (at + 1) t)
     (or-no (eqb b carriageReturn) (eqb (sequence (b ∷ t)) 0) (ne-eqb b carriageReturn h) (ne-eqb (sequence (b ∷ t)) 0 z)) refl)
     ∙ ap (λ (k : ℕ). readFrom k (at + 1) t) (omega arith)
     ∙ skips n (at + 1) t
     ∙ ap (λ (k : ℕ). readFrom 0 k (drop n t)) (omega arith)
 
-pub halts : (b : ℕ) (t : List ℕ) (at : ℕ) → stopsAt (b ∷ t) b ≡ true → BadText at ≡ readFrom 0 at (b ∷ t)
+pub halts : (b : ℕ) (t : List ℕ) (at : ℕ) → stopsAt (b ∷ t) b ≡ true → fault at ≡ readFrom 0 at (b ∷ t)
 unfolding readFrom
-halts b t at e = if-yes Checked (stopsAt (b ∷ t) b) (BadText at) (BadText at) (readFrom (sequence (b ∷ t) - 1) (at + 1) t) e refl
+halts b t at e = if-yes Reading (stopsAt (b ∷ t) b) (fault at) (fault at) (readFrom (sequence (b ∷ t) - 1) (at + 1) t) e refl
 
 -- a sequence lies whole in the text
 pub row-length : (row : Row) (t : List ℕ) → begins row t ≡ true → length row ≤ length t
@@ -78,16 +76,16 @@ module _ (page : List ℕ) (p : ℕ) (here : p < length page) where
   pub next-place : (n : ℕ) → n ≡ sequence (drop p page) → p + n ≤ length page
   next-place n e = let l = sequence-length (drop p page) n (sym e) in omega (arith, length-drop p page)
 
-  halts-if : stopsAt (drop p page) (getD page p 0) ≡ true → BadText p ≡ readFrom 0 p (drop p page)
+  halts-if : stopsAt (drop p page) (getD page p 0) ≡ true → fault p ≡ readFrom 0 p (drop p page)
   halts-if e =
       let f = from-place page p here in
       halts (getD page p 0) (drop (p + 1) page) p (ap (λ (t : List ℕ). stopsAt t (getD page p 0)) (sym f) ∙ e)
       ∙ ap (readFrom 0 p) (sym f)
 
-  pub halts-return : getD page p 0 ≡ carriageReturn → BadText p ≡ readFrom 0 p (drop p page)
+  pub halts-return : getD page p 0 ≡ carriageReturn → fault p ≡ readFrom 0 p (drop p page)
   halts-return e =
       halts-if (or-yes (eqb (getD page p 0) carriageReturn) (eqb (sequence (drop p page)) 0) (eq-eqb (getD page p 0) carriageReturn e))
 
-  pub halts-ill : sequence (drop p page) ≡ 0 → BadText p ≡ readFrom 0 p (drop p page)
+  pub halts-ill : sequence (drop p page) ≡ 0 → fault p ≡ readFrom 0 p (drop p page)
   halts-ill e =
       halts-if (or-yes′ (eqb (getD page p 0) carriageReturn) (eqb (sequence (drop p page)) 0) (eq-eqb (sequence (drop p page)) 0 e))

@@ -1,5 +1,5 @@
--- What a sequence of a row is: it decides where the reading goes on, and holds no carriage return but as its first byte.
-use Prim.Native.Nat.{ℕ, zero, suc, _≤_}
+-- What a sequence of a row is: it decides where the reading goes on, and holds no carriage return and no line feed but as its first byte.
+use Prim.Native.Nat.{ℕ, zero, suc, _+_, _≤_, _<_}
 use native.Mathlib.Omega.{arith}
 use mathlib.Core.Path.{_≡_, refl, sym, _∙_, ap}
 use mathlib.Core.Bool.{Bool, true, false, _&&_}
@@ -7,8 +7,8 @@ use mathlib.Core.Logic.{⊎-elim}
 use mathlib.Core.List.{List, [], _∷_, _++_, List·Memᴰ, List·Memᴰ·not-nil, List·Memᴰ·cases-cons}
 use borrow.Author.Tests.{ltb-true}
 use lib.Dec.{ltb}
-use lib.ListN.{length, take}
-use lib.Seq.{length-take-le}
+use lib.ListN.{length, getD, take, drop}
+use lib.Seq.{length-take-le, getD-drop}
 use Rattle.base.specs.Byte.{carriageReturn}
 use Rattle.base.proofs.Choice.{if-yes, and-yes, both}
 use Rattle.page.specs.Utf8.{Range, Row, holds, table, begins, sequence, Begins, Sequence}
@@ -112,3 +112,32 @@ plain-sequence [] b t l e h m = row-nonempty l
 plain-sequence (r ∷ row) b t l e h m =
     let p = both (holds r b) (begins row t) e in
     ⊎-elim (λ s. h (sym s)) (λ s. high-plain row t (high-tail table r row table-high l) (p .1) s) (List·Memᴰ·cases-cons m)
+
+-- every byte of a sequence that begins with one above the carriage return lies above it
+high-byte : (row : Row) (t : List ℕ) (i : ℕ) → high row ≡ true → begins row t ≡ true → i < length row → carriageReturn < getD t i 0
+unfolding high begins
+high-byte [] t i h e l = absurd (omega arith)
+high-byte (r ∷ row) [] i h e l = let z : _≡_ {A = ℕ} 0 1 = cc in absurd (omega arith)
+high-byte (r ∷ row) (b ∷ t) zero h e l =
+    let low = range-low r b (both (holds r b) (begins row t) e .0) in
+    let above = ltb-true carriageReturn (r .0) (both (ltb carriageReturn (r .0)) (high row) h .0) in
+    omega arith
+high-byte (r ∷ row) (b ∷ t) (suc i) h e l =
+    high-byte row t i (both (ltb carriageReturn (r .0)) (high row) h .1) (both (holds r b) (begins row t) e .1) (omega arith)
+
+row-high : (row : Row) (t : List ℕ) (i : ℕ) → List·Memᴰ row table → begins row t ≡ true → carriageReturn < getD t 0 0 → i < length row → carriageReturn < getD t i 0
+unfolding begins
+row-high [] t i m e b l = absurd (row-nonempty m)
+row-high (r ∷ row) [] i m e b l = let z : _≡_ {A = ℕ} 0 1 = cc in absurd (omega arith)
+row-high (r ∷ row) (x ∷ t) zero m e b l = b
+row-high (r ∷ row) (x ∷ t) (suc i) m e b l =
+    high-byte row t i (high-tail table r row table-high m) (both (holds r x) (begins row t) e .1) (omega arith)
+
+pub sequence-high : (page : List ℕ) (p : ℕ) → p < length page → (n : ℕ) → 0x80 ≤ getD page p 0 → n ≡ sequence (drop p page) → (i : ℕ) → i < n → carriageReturn < getD page (p + i) 0
+sequence-high page p here zero a e i l = absurd (omega arith)
+sequence-high page p here (suc n) a e i l =
+    let f = found table (drop p page) n (sym e) in
+    let z : p + 0 ≡ p = omega arith in
+    let first : getD (drop p page) 0 0 ≡ getD page p 0 = getD-drop p page 0 0 ∙ ap (λ (k : ℕ). getD page k 0) z in
+    let q = row-high (f .0) (drop p page) i (f .1) (f .2) (omega (arith, first)) (omega (arith, f .3)) in
+    omega (arith, q, getD-drop p page i 0)

@@ -1,3 +1,4 @@
+pub mod Line
 pub mod Utf8
 pub mod Text
 pub mod Page

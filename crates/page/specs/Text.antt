@@ -9,19 +9,22 @@ use lib.Dec.{eqb}
 use lib.ListN.{length, getD, take, drop}
 use Rattle.base.specs.Byte.{carriageReturn}
 use Rattle.base.specs.If.{if_then_else_}
-use Rattle.page.specs.declared.Checked.{Checked}
-use Rattle.page.specs.declared.Checked.the-variants.{Good, BadText}
 use Rattle.page.specs.Utf8.{sequence, Begins, WellFormed}
 
+-- what a reading finds: no fault, or the first one's offset
+pub data Reading : Type 0 where
+  good : Reading
+  fault : ℕ → Reading
+
 -- The text from the offset `at` on. `skip` counts the bytes that still belong to a sequence that was found whole.
-unfoldable pub readFrom : ℕ → ℕ → List ℕ → Checked
-readFrom skip at [] = Good
+unfoldable pub readFrom : ℕ → ℕ → List ℕ → Reading
+readFrom skip at [] = good
 readFrom zero at (b ∷ t) =
-    if eqb b carriageReturn || eqb (sequence (b ∷ t)) 0 then BadText at
+    if eqb b carriageReturn || eqb (sequence (b ∷ t)) 0 then fault at
     else readFrom (sequence (b ∷ t) - 1) (at + 1) t
 readFrom (suc k) at (b ∷ t) = readFrom k (at + 1) t
 
-abbrev pub readText : List ℕ → Checked
+abbrev pub readText : List ℕ → Reading
 readText t = readFrom 0 0 t
 
 -- The same with no word of how it is read: what makes a text good, and what makes the offset o its first fault.

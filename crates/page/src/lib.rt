@@ -1,26 +1,37 @@
 // What must hold of a page before any scan: its length, its place in the lent bytes, and its text.
+use crate::line::Line;
+use crate::line::Spot;
+use crate::line::first_line;
+use crate::line::next_line;
 use base::PAGE_LIMIT;
 ghost use mathlib.Core.Path.{_≡_};
-ghost use Prim.Native.Nat.{_+_, _<_};
+ghost use Prim.Native.Nat.{_+_, _-_, _≤_, _<_, _^_};
 ghost use lib.ListN.{length, getD, drop};
 ghost use mathlib.Core.List.{[], _∷_};
 ghost use Rattle.base.specs.If.{if_then_else_};
 ghost use Rattle.page.specs.Utf8.{holdsAt, begins, tail, sequence};
+ghost use Rattle.page.specs.declared.Checked.the-variants as checked;
+ghost use Rattle.page.specs.Line.{spot};
 ghost use Rattle.page.specs.Text.{readText};
-ghost use Rattle.page.specs.Page.{liesInside, pageCheck};
+ghost use Rattle.page.specs.Page.{liesInside, checkedBy, pageCheck};
 
-// The byte that no page may hold, though UTF-8 has it.
+pub mod line;
+
+// The byte that no page may hold, though UTF-8 has it; and the one that ends a line.
 const CARRIAGE_RETURN: u8 = 13;
+
+const LINE_FEED: u8 = 10;
 
 // What a page is answered. The three refusals are the answers 2, 3 and 4 of the answer table.
 pub enum Checked {
-    Good,
+    // The line of the start.
+    Good(Line),
     // Over the limit.
     TooLong,
     // The start is past the page's end, or the page is not inside the lent bytes.
     BadStart,
-    // Ill-formed UTF-8, or a carriage return. The first offset at fault, counted from the page's first byte.
-    BadText(usize),
+    // Ill-formed UTF-8, or a carriage return: the first place at fault.
+    BadText(Spot),
 }
 
 // The page that begins at `at` and is `length` long lies inside `lent` bytes. The difference is
@@ -49,32 +60,65 @@ pub fn check(bytes: &[u8], at: usize, length: usize, start: usize) -> Checked
     }
     if lies_inside(bytes.len(), at, length) {
         let end = at + length;
-        return text(&bytes[at..end]);
+        return text(&bytes[at..end], start);
     }
     Checked::BadStart
 }
 
-// One pass over the page. Most bytes of most pages are ASCII, so that is asked first.
-fn text(page: &[u8]) -> Checked
-    ensures { λ r. ⌜ r ≡ readText (now (page .entry)) ⌝ }
+// The text is at fault at a place of a line.
+fn bad_text(line: Line, at: usize) -> Checked
+    requires { ⌜ (line .first ≤ at) × (at < 2 ^ 63) ⌝ }
+    ensures { λ r. ⌜ r ≡ checked.BadText (spot at (line .number) (at - line .first + 1)) ⌝ }
+{
+    let spot = Spot {
+        place: at,
+        line: line.number,
+        column: at - line.first + 1,
+    };
+    Checked::BadText(spot)
+}
+
+// The line of the start, as far as it is known: a line that began before the start takes the place of the one before it.
+fn begun_by(line: Line, begun: Line, before: bool) -> Line
+    ensures { λ r. ⌜ r ≡ (if before then line else begun) ⌝ }
+{
+    if before {
+        return line;
+    }
+    begun
+}
+
+// One pass over the page, which counts its lines too: `line` is that of the place, `begun` that of the start, once it is passed.
+// Most bytes of most pages are ASCII, so that is asked first.
+fn text(page: &[u8], start: usize) -> Checked
+    requires { ⌜ start ≤ length (now page) ⌝ }
+    ensures { λ r. ⌜ r ≡ checkedBy (now (page .entry)) start (readText (now (page .entry))) ⌝ }
 {
     let mut at = 0;
+    let mut line = first_line();
+    let mut begun = first_line();
     while at < page.len() {
         let byte = page[at];
         if byte < 0x80 {
             if byte == CARRIAGE_RETURN {
-                return Checked::BadText(at);
+                return bad_text(line, at);
+            }
+            if byte == LINE_FEED {
+                line = next_line(line, at);
+                begun = begun_by(line, begun, at < start);
+                at += 1;
+                continue;
             }
             at += 1;
         } else {
             let size = size_at(page, at, byte);
             if size == 0 {
-                return Checked::BadText(at);
+                return bad_text(line, at);
             }
             at += size;
         }
     }
-    Checked::Good
+    Checked::Good(begun)
 }
 
 // How many bytes the sequence takes that begins at the place, whose byte is `byte`; 0 where no

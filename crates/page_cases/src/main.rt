@@ -90,10 +90,10 @@ fn text_agrees(line: &[u8], from: usize, space: &mut [u8]) -> bool {
 fn verdict_agrees(line: &[u8], from: usize, answer: Checked) -> bool {
     let end = text::find(line, from, b' ');
     match answer {
-        Checked::Good => text::is_word(line, from, line.len(), b"valid"),
-        Checked::BadText(offset) => {
+        Checked::Good(_) => text::is_word(line, from, line.len(), b"valid"),
+        Checked::BadText(spot) => {
             if text::is_word(line, from, end, b"invalid") {
-                return number_agrees(line, end + 1, offset);
+                return number_agrees(line, end + 1, spot.place);
             }
             false
         }

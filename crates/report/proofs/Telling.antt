@@ -6,6 +6,8 @@ use lib.Dec.{eqb}
 use Rattle.base.specs.If.{if_then_else_}
 use Rattle.base.specs.Number.{noPlace}
 use Rattle.base.specs.Table.{find}
+use Rattle.page.specs.declared.line.Spot.{Spot}
+use Rattle.scan.specs.declared.Tally.{Tally}
 use Rattle.scan.specs.declared.Answer.{Answer}
 use Rattle.scan.specs.declared.Answer.the-variants.{
   Done,
@@ -30,41 +32,41 @@ use Rattle.report.specs.Told.{toldOf, carried}
 
 pub told-is-said : (a : Answer) → said (toldOf a .number) (carried (toldOf a)) ≡ saidBy a
 unfolding carried if_then_else_
-told-is-said (Done end events steps) = refl
-told-is-said (Nok events steps) = refl
+told-is-said (Done end made) = refl
+told-is-said (Nok made) = refl
 told-is-said TooLong = refl
 told-is-said BadStart = refl
-told-is-said (BadText offset) = refl
-told-is-said (NotAscii place events steps) = refl
-told-is-said (Eof place site events steps) = refl
-told-is-said (Unexpected place site note events steps) = refl
-told-is-said (VerdictError place number events steps) = refl
-told-is-said (VerdictEof place number events steps) = refl
-told-is-said (Full place events steps) = refl
+told-is-said (BadText p) = refl
+told-is-said (NotAscii p made) = refl
+told-is-said (Eof p site made) = refl
+told-is-said (Unexpected p site note made) = refl
+told-is-said (VerdictError p number made) = refl
+told-is-said (VerdictEof p number made) = refl
+told-is-said (Full p made) = refl
 told-is-said BadCall = refl
-told-is-said (Asking place events steps) = refl
-told-is-said (Paused place events steps) = refl
+told-is-said (Asking p made) = refl
+told-is-said (Paused p made) = refl
 told-is-said Kept = refl
 
 -- ---- the table of numbers and names, as one computed claim
 
 -- one answer of each case, in the order of their numbers
-abbrev cases : List Answer
-cases =
-    Done 0 0 0
-    ∷ Nok 0 0
+abbrev cases : Spot → Tally → List Answer
+cases p made =
+    Done 0 made
+    ∷ Nok made
     ∷ TooLong
     ∷ BadStart
-    ∷ BadText 0
-    ∷ NotAscii 0 0 0
-    ∷ Eof 0 0 0 0
-    ∷ Unexpected 0 0 0 0 0
-    ∷ VerdictError 0 0 0 0
-    ∷ VerdictEof 0 0 0 0
-    ∷ Full 0 0 0
+    ∷ BadText p
+    ∷ NotAscii p made
+    ∷ Eof p 0 made
+    ∷ Unexpected p 0 0 made
+    ∷ VerdictError p 0 made
+    ∷ VerdictEof p 0 made
+    ∷ Full p made
     ∷ BadCall
-    ∷ Asking 0 0 0
-    ∷ Paused 0 0 0
+    ∷ Asking p made
+    ∷ Paused p made
     ∷ Kept
     ∷ []
 
@@ -79,6 +81,6 @@ ofScans [] = []
 ofScans (e ∷ es) = if eqb (e .0) noPlace then ofScans es else e ∷ ofScans es
 
 -- the table names every answer, each under its number, and nothing else
-pub every-number-is-named : named cases ≡ ofScans answerNames
+pub every-number-is-named : (p : Spot) (made : Tally) → named (cases p made) ≡ ofScans answerNames
 unfolding answerName find if_then_else_
-every-number-is-named = refl
+every-number-is-named p made = refl

@@ -1,10 +1,11 @@
 -- The names of the answers, as bytes; and an answer's text, its name and values.
 use Prim.Native.Nat.{ℕ}
 use mathlib.Core.List.{List, [], _∷_, _++_}
+use mathlib.Core.Bool.{Bool, true, false}
 use lib.Dec.{ltb}
 use Rattle.base.specs.Table.{find}
 use Rattle.report.specs.declared.answers.Told.{Told}
-use Rattle.report.specs.Decimal.{valuePieces}
+use Rattle.report.specs.Decimal.{joinedPieces, valuePieces}
 use Rattle.report.specs.Name.{unknown}
 
 abbrev pub answerNames : List (ℕ × List ℕ)
@@ -46,9 +47,18 @@ answerNames =
 unfoldable pub answerName : ℕ → List ℕ
 answerName n = find n answerNames unknown
 
--- the values that it carries, a space before each
-abbrev pub valuesPieces : Told → List (List ℕ)
-valuesPieces t = valuePieces (ltb 0 (t .values)) (t .first) ++ (valuePieces (ltb 1 (t .values)) (t .second) ++ valuePieces (ltb 2 (t .values)) (t .third))
+-- the line and the column of a place, behind it, with a joint before each: `:` or a space
+abbrev pub placePieces : Bool → List ℕ → ℕ → ℕ → List (List ℕ)
+placePieces false joint line column = []
+placePieces true joint line column = joinedPieces joint line ++ joinedPieces joint column
 
-abbrev pub answerPieces : Told → List (List ℕ)
-answerPieces t = answerName (t .number) ∷ valuesPieces t
+-- the values that it carries, a space before each
+abbrev pub valuesPieces : List ℕ → Told → List (List ℕ)
+valuesPieces joint t =
+    valuePieces (ltb 0 (t .values)) (t .first)
+    ++ (placePieces (t .placed) joint (t .line) (t .column)
+    ++ (valuePieces (ltb 1 (t .values)) (t .second)
+    ++ valuePieces (ltb 2 (t .values)) (t .third)))
+
+abbrev pub answerPieces : List ℕ → Told → List (List ℕ)
+answerPieces joint t = answerName (t .number) ∷ valuesPieces joint t

@@ -26,3 +26,7 @@ spacedPieces n = (space ∷ []) ∷ decimal n ∷ []
 abbrev pub valuePieces : Bool → ℕ → List (List ℕ)
 valuePieces true n = spacedPieces n
 valuePieces false n = []
+
+-- a joint, as `:`, and the number
+abbrev pub joinedPieces : List ℕ → ℕ → List (List ℕ)
+joinedPieces joint n = joint ∷ decimal n ∷ []

@@ -1,14 +1,19 @@
 // The answers by number and values, as the answer table has them.
+use page::line::Spot;
 use scan::Answer;
+use scan::Tally;
 ghost use mathlib.Core.Path.{_≡_};
-ghost use Rattle.report.specs.Told.{carryingTold, bareTold, oneTold, twoTold, threeTold, countingTold, toldOf};
+ghost use Rattle.report.specs.Told.{bareTold, endTold, placeTold, countingTold, toldOf};
 
-// An answer's number, the values that it carries in the table's order, and its events and steps. What it does not carry is
-// 0. Asking, Paused and Kept, which the table does not number, are 31 to 33.
+// An answer's number, the values that it carries in the table's order, and its events and steps. Where the first value is a place, it
+// has a line and a column. What is not carried is 0. Asking, Paused and Kept, which the table does not number, are 31 to 33.
 pub struct Told {
     pub number: u8,
     pub values: u8,
+    pub placed: bool,
     pub first: usize,
+    pub line: usize,
+    pub column: usize,
     pub second: usize,
     pub third: usize,
     pub counted: bool,
@@ -20,93 +25,79 @@ pub fn tell(answer: Answer) -> Told
     ensures { λ r. ⌜ r ≡ toldOf answer ⌝ }
 {
     match answer {
-        Answer::Done { end, events, steps } => counting(one(0, end), events, steps),
-        Answer::Nok { events, steps } => counting(bare(1), events, steps),
+        Answer::Done { end, tally } => counting(ended(0, end), tally),
+        Answer::Nok { tally } => counting(bare(1), tally),
         Answer::TooLong => bare(2),
         Answer::BadStart => bare(3),
-        Answer::BadText { offset } => one(4, offset),
-        Answer::NotAscii {
-            place,
-            events,
-            steps,
-        } => counting(one(5, place), events, steps),
-        Answer::Eof {
-            place,
-            site,
-            events,
-            steps,
-        } => counting(two(6, place, site as usize), events, steps),
+        Answer::BadText { spot } => placed(4, 1, spot, 0, 0),
+        Answer::NotAscii { spot, tally } => counting(placed(5, 1, spot, 0, 0), tally),
+        Answer::Eof { spot, site, tally } => {
+            counting(placed(6, 2, spot, site as usize, 0), tally)
+        }
         Answer::Unexpected {
-            place,
+            spot,
             site,
             note,
-            events,
-            steps,
-        } => counting(three(7, place, site as usize, note as usize), events, steps),
+            tally,
+        } => counting(placed(7, 3, spot, site as usize, note as usize), tally),
         Answer::VerdictError {
-            place,
+            spot,
             number,
-            events,
-            steps,
-        } => counting(two(8, place, number as usize), events, steps),
+            tally,
+        } => counting(placed(8, 2, spot, number as usize, 0), tally),
         Answer::VerdictEof {
-            place,
+            spot,
             number,
-            events,
-            steps,
-        } => counting(two(9, place, number as usize), events, steps),
-        Answer::Full {
-            place,
-            events,
-            steps,
-        } => counting(one(10, place), events, steps),
+            tally,
+        } => counting(placed(9, 2, spot, number as usize, 0), tally),
+        Answer::Full { spot, tally } => counting(placed(10, 1, spot, 0, 0), tally),
         Answer::BadCall => bare(12),
-        Answer::Asking {
-            place,
-            events,
-            steps,
-        } => counting(one(31, place), events, steps),
-        Answer::Paused {
-            place,
-            events,
-            steps,
-        } => counting(one(32, place), events, steps),
+        Answer::Asking { spot, tally } => counting(placed(31, 1, spot, 0, 0), tally),
+        Answer::Paused { spot, tally } => counting(placed(32, 1, spot, 0, 0), tally),
         Answer::Kept => bare(33),
     }
 }
 
+// An answer that carries nothing.
 fn bare(number: u8) -> Told
     ensures { λ r. ⌜ r ≡ bareTold number ⌝ }
 {
-    carrying(number, 0, 0, 0, 0)
+    Told {
+        number,
+        values: 0,
+        placed: false,
+        first: 0,
+        line: 0,
+        column: 0,
+        second: 0,
+        third: 0,
+        counted: false,
+        events: 0,
+        steps: 0,
+    }
 }
 
-fn one(number: u8, first: usize) -> Told
-    ensures { λ r. ⌜ r ≡ oneTold number first ⌝ }
+// An answer that carries an end.
+fn ended(number: u8, end: usize) -> Told
+    ensures { λ r. ⌜ r ≡ endTold number end ⌝ }
 {
-    carrying(number, 1, first, 0, 0)
+    let mut told = bare(number);
+    told.values = 1;
+    told.first = end;
+    told
 }
 
-fn two(number: u8, first: usize, second: usize) -> Told
-    ensures { λ r. ⌜ r ≡ twoTold number first second ⌝ }
-{
-    carrying(number, 2, first, second, 0)
-}
-
-fn three(number: u8, first: usize, second: usize, third: usize) -> Told
-    ensures { λ r. ⌜ r ≡ threeTold number first second third ⌝ }
-{
-    carrying(number, 3, first, second, third)
-}
-
-// An answer that carries so many values, and no events and steps.
-fn carrying(number: u8, values: u8, first: usize, second: usize, third: usize) -> Told
-    ensures { λ r. ⌜ r ≡ carryingTold number values first second third ⌝ }
+// An answer that carries so many values, of which the first is a place.
+fn placed(number: u8, values: u8, spot: Spot, second: usize, third: usize) -> Told
+    ensures { λ r. ⌜ r ≡ placeTold number values spot second third ⌝ }
 {
     Told {
         number,
         values,
-        first,
+        placed: true,
+        first: spot.place,
+        line: spot.line,
+        column: spot.column,
         second,
         third,
         counted: false,
@@ -116,12 +107,12 @@ fn carrying(number: u8, values: u8, first: usize, second: usize, third: usize) -
 }
 
 // The same answer with its events and steps.
-fn counting(told: Told, events: usize, steps: usize) -> Told
-    ensures { λ r. ⌜ r ≡ countingTold told events steps ⌝ }
+fn counting(told: Told, tally: Tally) -> Told
+    ensures { λ r. ⌜ r ≡ countingTold told tally ⌝ }
 {
     let mut counted = told;
     counted.counted = true;
-    counted.events = events;
-    counted.steps = steps;
+    counted.events = tally.events;
+    counted.steps = tally.steps;
     counted
 }

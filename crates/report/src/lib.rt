@@ -28,6 +28,7 @@ pub use output::put_marks;
 pub use output::put_number;
 pub use output::say_status;
 pub use pieces::hex;
+pub use pieces::joined;
 pub use pieces::number;
 pub use pieces::spaced;
 pub use pieces::text;

@@ -4,7 +4,7 @@ ghost use mathlib.Core.List.{[], _∷_};
 ghost use Prim.Native.Nat.{_+_, _*_, _≤_, _<_};
 ghost use lib.ListN.{length};
 ghost use lib.Seq.{sets};
-ghost use Rattle.report.specs.Decimal.{decimal, spacedPieces, valuePieces};
+ghost use Rattle.report.specs.Decimal.{decimal, joinedPieces, spacedPieces, valuePieces};
 ghost use Rattle.report.specs.Hex.{digitOf, hexOf, fieldOf};
 ghost use Rattle.report.specs.Put.{inRoom, outcome, putOf};
 
@@ -49,13 +49,21 @@ pub fn number(out: &mut [u8], at: usize, n: u64) -> usize
     text(out, at, &digits[..count])
 }
 
+// A joint, as `:`, and the number.
+pub fn joined(out: &mut [u8], at: usize, joint: &[u8], n: usize) -> usize
+    ensures { λ r. ⌜ r ≤ length (now (out .exit)) ⌝ }
+    ensures { λ r. ⌜ outcome r (now (out .exit)) ≡ putOf (now (out .entry)) at (joinedPieces (now (joint .entry)) n) ⌝ }
+{
+    let past = text(out, at, joint);
+    number(out, past, n as u64)
+}
+
 // A space and the number.
 pub fn spaced(out: &mut [u8], at: usize, n: usize) -> usize
     ensures { λ r. ⌜ r ≤ length (now (out .exit)) ⌝ }
     ensures { λ r. ⌜ outcome r (now (out .exit)) ≡ putOf (now (out .entry)) at (spacedPieces n) ⌝ }
 {
-    let past = text(out, at, b" ");
-    number(out, past, n as u64)
+    joined(out, at, b" ", n)
 }
 
 // The same, or nothing where the number is not carried.

@@ -20,7 +20,7 @@ use Rattle.tokenizer.specs.declared.Job.{Job}
 use Rattle.tokenizer.specs.Moved.{moved}
 use Rattle.scan.specs.declared.Scan.{Scan}
 use Rattle.scan.specs.Scan.{choice, lacks, stepScan, runScan, runEvents, runWords}
-use Rattle.scan.specs.Call.{freshScan, givable, givenScan, giveOf, runnable, runOf}
+use Rattle.scan.specs.Call.{freshIn, givable, givenScan, giveOf, runnable, runOf}
 use Rattle.scan.specs.Statement.{Call, run, give, callOf, scanAfter, wordsAfter, callEvents, eventsAfter, Holds, EventsStay, EventsRead}
 use Rattle.scan.proofs.Pausing.{events-are-counted}
 use Rattle.scan.proofs.Runs.{run-keeps}
@@ -116,7 +116,7 @@ after-calls lent (c ∷ cs) s words events h =
     rw (← append-assoc) (after-calls lent cs (callOf c s words .scan) (callOf c s words .words) (events ++ callEvents c s words) (after-call lent s words events h c))
 
 pub events-stay : EventsStay
-unfolding freshScan
+unfolding freshIn
 events-stay bytes at n start construct kind flags lent s e calls =
     let f = begins bytes at n start construct kind flags (length lent) s e .fresh in
     after-calls lent calls s lent []

@@ -4,14 +4,17 @@ use native.Mathlib.Omega.{arith}
 use mathlib.Core.Path.{_≡_, sym}
 use mathlib.Core.Bool.{true}
 use lib.Dec.{leb, ltb, eqb}
-use borrow.Author.Tests.{leb-true, eqb-true}
-use Rattle.base.proofs.Choice.{both}
+use borrow.Author.Tests.{leb-true, le-leb, eqb-true}
+use Rattle.base.proofs.Choice.{both, and-yes}
 use Rattle.events.specs.Words.{roomIn}
 use Rattle.tokenizer.specs.declared.Tokenizer.{Tokenizer}
 use Rattle.base.specs.Page.{pageLimit}
 use Rattle.tokenizer.specs.Ranges.{jobInRange, listed, placesInRange, numbersInRange, isReturn, regsInRange, inRange}
+use Rattle.scan.specs.declared.lines.Lines.{Lines}
 use Rattle.scan.specs.declared.Scan.{Scan}
-use Rattle.scan.specs.Inner.{Fit}
+use Rattle.scan.specs.Lines.{highest, linesInRange}
+use Rattle.scan.specs.Scan.{stepBound}
+use Rattle.scan.specs.Inner.{Small, Fit}
 use Rattle.scan.specs.Call.{scanInRange, runnable}
 
 -- the numbers that a step counts with
@@ -40,6 +43,19 @@ ranged t e =
       saved = leb-true (t .regs .saved) (t .job .length) (r₄ .0);
     }
 
+-- the numbers of its lines
+pub lines-small : (l : Lines) → linesInRange l ≡ true → Small l
+unfolding linesInRange
+lines-small l e =
+    let a = both (leb (l .line .number) highest) _ e in
+    let b = both (leb (l .kept .number) highest) (leb (l .fault .number) highest) (a .1) in
+    (leb-true (l .line .number) highest (a .0), leb-true (l .kept .number) highest (b .0), leb-true (l .fault .number) highest (b .1))
+
+pub lines-told : (l : Lines) → Small l → linesInRange l ≡ true
+unfolding linesInRange
+lines-told l h =
+    and-yes _ _ (le-leb (l .line .number) highest (h .0)) (and-yes _ _ (le-leb (l .kept .number) highest (h .1)) (le-leb (l .fault .number) highest (h .2)))
+
 -- a scan that a run takes fits its page and its words
 pub fit-of : (s : Scan) (n w allowance : ℕ) → runnable s n w allowance ≡ true → Fit s n w
 unfolding runnable scanInRange
@@ -50,15 +66,18 @@ fit-of s n w allowance e =
     let d = both (eqb w (s .tokenizer .job .words)) _ (c .1) in
     let f = both (inRange (s .tokenizer)) _ (d .1) in
     let g = both (leb (s .used) (roomIn (s .tokenizer .job .words))) _ (f .1) in
+    let k = both (leb (s .steps) (stepBound (s .tokenizer .job))) _ (g .1) in
+    let i = lines-small (s .lines) (k .1) in
     let r = ranged (s .tokenizer) (f .0) in
     let l : s .tokenizer .job .length ≡ n = sym (eqb-true n (s .tokenizer .job .length) (c .0)) in
-    let k : s .tokenizer .job .words ≡ w = sym (eqb-true w (s .tokenizer .job .words) (d .0)) in
+    let v : s .tokenizer .job .words ≡ w = sym (eqb-true w (s .tokenizer .job .words) (d .0)) in
     record {
       long = l;
       short = omega (arith, r .short);
       start = omega (arith, r .start);
       at = omega (arith, r .at);
       saved = omega (arith, r .saved);
-      words = k;
+      words = v;
       used = omega (arith, leb-true (s .used) (roomIn (s .tokenizer .job .words)) (g .0));
+      lines = i;
     }

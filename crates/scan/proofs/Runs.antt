@@ -5,8 +5,10 @@ use native.Mathlib.Numerals.{sub-one}
 use mathlib.Core.Path.{_≡_, refl, sym, ap, _∙_}
 use mathlib.Core.Bool.{Bool, true, false}
 use mathlib.Core.List.{List, [], _++_}
+use lib.Dec.{eqb}
 use lib.ListN.{length}
 use borrow.Author.Tests.{lt-ltb, le-ltb}
+use Rattle.base.specs.Byte.{lineFeed}
 use Rattle.base.specs.If.{if_then_else_}
 use Rattle.base.proofs.Choice.{case}
 use Rattle.base.specs.Page.{byteAt}
@@ -18,7 +20,7 @@ use Rattle.scan.specs.declared.Scan.{Scan}
 use Rattle.tokenizer.specs.Decision.{decision}
 use Rattle.events.specs.Words.{written}
 use Rattle.events.proofs.Laws.{count-is, written-append, written-none}
-use Rattle.scan.specs.Scan.{choice, carriedOut, movedScan, stepScan, stepEvents, runScan, runEvents, runWords}
+use Rattle.scan.specs.Scan.{choice, carriedOut, linesStep, movedScan, stepScan, stepEvents, runScan, runEvents, runWords}
 use Rattle.scan.specs.Inner.{Fit, Glides}
 use Rattle.scan.proofs.Steps.{none, fit-step}
 
@@ -48,7 +50,7 @@ module _ (page : List ℕ) (s : Scan) where
   -- a step counts its events
   pub step-count : stepScan page s .used ≡ s .used + length (stepEvents page s)
   unfolding stepScan stepEvents
-  step-count = ap (λ (n : ℕ). s .used + n) (sym (count-is (carriedOut s (choice page s) .marks) (s .tokenizer .at)))
+  step-count = ap (λ (n : ℕ). s .used + n) (sym (count-is (carriedOut s (choice page s) .marks) _ _))
 
   -- the words of a step, and of the run after it, are the words of the run
   pub words-more : (words : List ℕ) (k : ℕ) → 0 < k → rests (s .tokenizer .state) ≡ false
@@ -70,12 +72,18 @@ run-keeps page P f (suc k) s p = case _ (rests (s .tokenizer .state)) (λ e. rw 
 
 -- ---- the short way is a step
 
+-- the byte that is eaten is no line feed, so that the lines stay
+same-lines : (page : List ℕ) (s : Scan) (b : ℕ) (m : Move) → b ≡ byteAt page (s .tokenizer .at) → eqb b lineFeed ≡ false → m ≡ eat (s .tokenizer .state) Nothing → s .lines ≡ linesStep page s m
+unfolding if_then_else_
+same-lines page s b m e f d = rw (d, ← e, f)
+
 pub glide : (page words : List ℕ) (s : Scan) (b : ℕ) (r : Bool) (m : Move) → b ≡ byteAt page (s .tokenizer .at) → Glides (s .tokenizer .state) (s .tokenizer .regs .quote) b r → r ≡ true
-    → m ≡ eat (s .tokenizer .state) Nothing → (movedScan s m 0 ≡ stepScan page s) × (words ≡ written words (s .used) (stepEvents page s))
+    → m ≡ eat (s .tokenizer .state) Nothing → (movedScan s m 0 (s .lines) ≡ stepScan page s) × (words ≡ written words (s .used) (stepEvents page s))
 unfolding choice
 glide page words s b r m e g y d =
-    let c : m ≡ choice page s = d ∙ sym (ap (decision page (s .tokenizer)) (sym e) ∙ g page (s .tokenizer) refl refl y) in
-    none page words s m c 0 (rw d) refl
+    let c : m ≡ choice page s = d ∙ sym (ap (decision page (s .tokenizer)) (sym e) ∙ g .stays page (s .tokenizer) refl refl y) in
+    let n = none page words s b e m c 0 (rw d) refl in
+    (ap (movedScan s m 0) (same-lines page s b m e (g .inLine y) d) ∙ n .0, n .1)
 
 -- ---- the loop
 
@@ -106,6 +114,6 @@ module _ {page words₀ : List ℕ} {allowance : ℕ} {s₀ : Scan} {words : Lis
       record {
         state = rw e (sym (run-more page s left h r) ∙ g .state);
         written = rw (e, d) (words-more page s words left h r ∙ g .written);
-        fit = rw (e, l) (fit-step page s (length page) (length words) (g .fit));
+        fit = rw (e, l) (fit-step page s (length words) (g .fit));
         same = l ∙ g .same;
       }

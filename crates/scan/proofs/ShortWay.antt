@@ -113,3 +113,19 @@ module _ (page : List ℕ) (t : Tokenizer) (b : ℕ) where
   pub lines : t .state ≡ 70 → not (lineEnds b) ≡ true → decision page t b ≡ eat 70 Nothing
   unfolding decision stateDecision esmDecision find if_then_else_ within
   lines h e = rw h (simp (and-no′ (notAscii b) (takesAscii 70) refl, not-yes (lineEnds b) e))
+
+-- ---- no line feed is passed
+
+pub data-in-line : (b : ℕ) → plainData b ≡ true → eqb b lineFeed ≡ false
+unfolding among
+data-in-line b e = or-left (eqb b lineFeed) _ (not-yes _ e)
+
+pub line-in-line : (b : ℕ) → not (lineEnds b) ≡ true → eqb b lineFeed ≡ false
+unfolding among
+line-in-line b e = or-left (eqb b lineFeed) _ (not-yes (lineEnds b) e)
+
+pub quoted-in-line : (b quote : ℕ) → not (quotedEnds b quote) ≡ true → eqb b lineFeed ≡ false
+quoted-in-line b quote e = or-left (eqb b lineFeed) _ (or-right (eqb b quote) _ (not-yes (quotedEnds b quote) e))
+
+pub name-in-line : (b : ℕ) → isIdCont b ≡ true → eqb b lineFeed ≡ false
+name-in-line b e = ne-eqb b lineFeed (λ q. let r = id-cont-range b e in omega (arith, q))

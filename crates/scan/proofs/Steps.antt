@@ -1,14 +1,18 @@
 -- How the code's three ways of a step are the definition's one: no events, no room, events that fit. And what a step keeps.
 use Prim.Native.Nat.{ℕ, _+_, _-_, _≤_, _<_, _^_}
 use native.Mathlib.Omega.{arith}
-use mathlib.Core.Path.{_≡_, refl, sym, _∙_}
+use native.Mathlib.Decide.{decLe}
+use mathlib.Core.Path.{_≡_, refl, sym, ap, _∙_}
+use mathlib.Core.Logic.{by-cases}
 use mathlib.Core.Bool.{Bool, true, false}
 use mathlib.Core.List.{List, []}
 use lib.ListN.{length}
-use lib.Dec.{ltb}
+use lib.Dec.{ltb, eqb}
 use borrow.Author.Tests.{ltb-true, ltb-false, le-ltb}
 use Rattle.base.specs.If.{if_then_else_}
 use Rattle.base.proofs.Choice.{if-yes, if-no, if-is}
+use Rattle.base.specs.Byte.{lineFeed}
+use Rattle.base.specs.Page.{pageLimit, byteAt}
 use Rattle.base.specs.State.{full}
 use Rattle.base.specs.Decide.{eat, retry, listOf, countOf}
 use Rattle.base.specs.declared.Marks.{Marks}
@@ -16,14 +20,18 @@ use Rattle.base.specs.declared.Marks.the-variants.{Nothing, One, Two, Three, Fo
 use Rattle.base.specs.declared.Effect.{Effect}
 use Rattle.base.specs.declared.Effect.the-variants.{Keep, Deeper, Shallower, Open, PrefixBegins, PrefixGoesOn, PrefixEnds, Quote, Return, Save, Restore, Last, Fault, Refuse}
 use Rattle.base.specs.declared.Move.{Move}
-use Rattle.events.specs.Event.{eventsAt}
+use Rattle.page.specs.declared.line.Line.{Line}
+use Rattle.page.specs.Line.{lineOf, lineAt}
+use Rattle.page.proofs.Lines.{line-within, line-end}
 use Rattle.events.specs.Words.{roomIn, written}
 use Rattle.events.proofs.Laws.{written-none}
 use Rattle.tokenizer.specs.declared.Regs.{Regs}
-use Rattle.tokenizer.specs.Moved.{nextPlace, placeAfter, changed, moved}
+use Rattle.tokenizer.specs.Moved.{oneMore, nextPlace, placeAfter, changed, moved}
+use Rattle.scan.specs.declared.lines.Lines.{Lines}
 use Rattle.scan.specs.declared.Scan.{Scan}
-use Rattle.scan.specs.Scan.{choice, lacks, carriedOut, movedScan, stepScan, stepEvents}
-use Rattle.scan.specs.Inner.{Fit, Counts}
+use Rattle.scan.specs.Lines.{highest, linePast, linesAfter}
+use Rattle.scan.specs.Scan.{choice, lacks, carriedOut, lineNext, linesStep, marksAt, movedScan, stepScan, stepEvents}
+use Rattle.scan.specs.Inner.{Small, Fit, Counts}
 
 -- ---- events
 
@@ -43,24 +51,24 @@ few-marks (Four a b c d) = omega arith
 
 -- ---- the three ways of a step
 
-module _ (page words : List ℕ) (s : Scan) (m : Move) (e : m ≡ choice page s) (n : ℕ) (counts : n ≡ countOf (m .marks)) where
+module _ (page words : List ℕ) (s : Scan) (b : ℕ) (byte : b ≡ byteAt page (s .tokenizer .at)) (m : Move) (e : m ≡ choice page s) (n : ℕ) (counts : n ≡ countOf (m .marks)) where
   abbrev Stepped : Scan → List ℕ → Type 0
   Stepped s′ words′ = (s′ ≡ stepScan page s) × (words′ ≡ written words (s .used) (stepEvents page s))
 
-  pub fits : lacks s m ≡ false → Stepped (movedScan s m n) (written words (s .used) (eventsAt (s .tokenizer .at) (listOf (m .marks))))
+  pub fits : lacks s m ≡ false → Stepped (movedScan s m n (linesStep page s m)) (written words (s .used) (marksAt b s (listOf (m .marks))))
   unfolding stepScan stepEvents
   fits f =
       let d : carriedOut s m ≡ m = sym (if-no _ _ m (retry full Nothing) m f refl) in
-      (rw (← e, d, counts), rw (← e, d))
+      (rw (← e, d, counts), rw (← e, d, byte))
 
-  pub none : n ≡ 0 → Stepped (movedScan s m n) words
+  pub none : n ≡ 0 → Stepped (movedScan s m n (linesStep page s m)) words
   none z =
       let k : countOf (m .marks) ≡ 0 = sym counts ∙ z in
       let f = fits (le-ltb _ (countOf (m .marks)) (omega (arith, k))) in
       (f .0, sym (rw (no-marks (m .marks) k) (written-none words (s .used))) ∙ f .1)
 
-  pub lacking : lacks s m ≡ true → Stepped (movedScan s (retry full Nothing) 0) words
-  unfolding stepScan stepEvents
+  pub lacking : lacks s m ≡ true → Stepped (movedScan s (retry full Nothing) 0 (s .lines)) words
+  unfolding stepScan stepEvents if_then_else_
   lacking f =
       let d : carriedOut s m ≡ retry full Nothing = sym (if-yes _ _ (retry full Nothing) (retry full Nothing) m f refl) in
       (rw (← e, d), sym (rw (← e, d) (written-none words (s .used))))
@@ -110,10 +118,53 @@ saved-within n at next r a v (Last k) = v
 saved-within n at next r a v (Fault k p) = v
 saved-within n at next r a v (Refuse w k) = v
 
+-- the numbers of lines stay as small as a page's are
+one-more-small : (n limit : ℕ) → n ≤ limit → oneMore n limit ≤ limit
+one-more-small n limit h = if-is ℕ (λ (k : ℕ). k ≤ limit) (ltb n limit) (n + 1) n (λ e. omega (arith, ltb-true n limit e)) (λ e. h)
+
+pub past-small : (line : Line) (at b : ℕ) → line .number ≤ highest → linePast line at b .number ≤ highest
+past-small line at b h =
+    if-is Line (λ (l : Line). l .number ≤ highest) (eqb b lineFeed) _ line (λ e. one-more-small (line .number) highest h) (λ e. h)
+
+pub next-small : (page : List ℕ) (s : Scan) (m : Move) → s .lines .line .number ≤ highest → lineNext page s m .number ≤ highest
+next-small page s m h =
+    if-is Line (λ (l : Line). l .number ≤ highest) (m .eat) _ (s .lines .line)
+    (λ e. past-small (s .lines .line) (s .tokenizer .at) (byteAt page (s .tokenizer .at)) h) (λ e. h)
+
+-- no line of a page has a higher number than the page's end
+at-end : (page : List ℕ) (place : ℕ) → length page ≤ pageLimit → lineOf page place ≤ highest
+at-end page place h =
+    by-cases (decLe place (length page))
+    (λ (l : place ≤ length page). omega (arith, line-within page place))
+    (λ l.
+    let more : length page + (place - length page) ≡ place = omega (arith, l) in
+    let same = ap (λ (x : Line). x .number) (sym (line-end page (place - length page)) ∙ ap (lineAt page) more) in
+    omega (arith, line-within page (length page), same))
+
+module _ (page : List ℕ) (short : length page ≤ pageLimit) (next : Line) (l : Lines) (x : next .number ≤ highest) (h : Small l) where
+  pub after-small : (e : Effect) → Small (linesAfter page e next l)
+  after-small Keep = (x, h .1, h .2)
+  after-small Deeper = (x, h .1, h .2)
+  after-small Shallower = (x, h .1, h .2)
+  after-small Open = (x, h .1, h .2)
+  after-small PrefixBegins = (x, h .1, h .2)
+  after-small PrefixGoesOn = (x, h .1, h .2)
+  after-small PrefixEnds = (x, h .1, h .2)
+  after-small (Quote b) = (x, h .1, h .2)
+  after-small (Return name) = (x, h .1, h .2)
+  after-small Save = (x, h .0, h .2)
+  after-small Restore = (h .1, h .1, h .2)
+  after-small (Last k) = (x, h .1, h .2)
+  after-small (Fault k p) = (x, h .1, at-end page p short)
+  after-small (Refuse w k) = (x, h .1, h .2)
+
+pub step-small : (page : List ℕ) (s : Scan) (m : Move) → length page ≤ pageLimit → Small (s .lines) → Small (linesStep page s m)
+step-small page s m short h = after-small page short (lineNext page s m) (s .lines) (next-small page s m (h .0)) h (m .effect)
+
 -- whatever is decided, the scan fits its page and its words after it, if its events do
-pub fit-moved : (s : Scan) (n w : ℕ) (m : Move) (k : ℕ) → Fit s n w → s .used + k ≤ roomIn w → Fit (movedScan s m k) n w
+pub fit-moved : (s : Scan) (n w : ℕ) (m : Move) (k : ℕ) (lines : Lines) → Fit s n w → s .used + k ≤ roomIn w → Small lines → Fit (movedScan s m k lines) n w
 unfolding moved
-fit-moved s n w m k f h =
+fit-moved s n w m k lines f h l =
     let next = nextPlace (s .tokenizer .at) (m .eat) (s .tokenizer .job .length) in
     let x : next ≤ n = rw (f .long) (next-within (s .tokenizer .at) n (m .eat) (f .at)) in
     record {
@@ -124,12 +175,14 @@ fit-moved s n w m k f h =
       saved = saved-within n (s .tokenizer .at) next (s .tokenizer .regs) (f .at) (f .saved) (m .effect);
       words = f .words;
       used = h;
+      lines = l;
     }
 
-pub fit-step : (page : List ℕ) (s : Scan) (n w : ℕ) → Fit s n w → Fit (stepScan page s) n w
+pub fit-step : (page : List ℕ) (s : Scan) (w : ℕ) → Fit s (length page) w → Fit (stepScan page s) (length page) w
 unfolding stepScan
-fit-step page s n w f =
-    fit-moved s n w (carriedOut s (choice page s)) (countOf (carriedOut s (choice page s) .marks)) f
+fit-step page s w f =
+    fit-moved s (length page) w (carriedOut s (choice page s)) (countOf (carriedOut s (choice page s) .marks)) (linesStep page s (carriedOut s (choice page s))) f
     (if-is Move (λ (m : Move). s .used + countOf (m .marks) ≤ roomIn w) (lacks s (choice page s)) (retry full Nothing) (choice page s)
     (λ e. omega (arith, f .used))
     (λ e. omega (arith, f .used, f .words, ltb-false (roomIn (s .tokenizer .job .words) - s .used) (countOf (choice page s .marks)) e)))
+    (step-small page s (carriedOut s (choice page s)) (f .short) (f .lines))

@@ -12,13 +12,14 @@ use Rattle.base.specs.Page.{byteAt, afterLineFeed}
 use Rattle.base.specs.declared.Verdict.{Verdict}
 use Rattle.base.specs.declared.Verdict.the-variants.{Fine, Unfinished}
 use Rattle.char_class.specs.Class.{isWhitespace, isSpaceOrTab, isIdStart, isIdCont}
+use Rattle.page.specs.Line.{lineOf, firstOf}
 use Rattle.mdx_esm.specs.Word.{spells, isWord}
 use Rattle.tokenizer.specs.Decision.{esmDecision, attributeDecision, tagDecision, expressionDecision, stateDecision, decision}
 use Rattle.tokenizer.specs.Moved.{moved}
 use Rattle.tokenizer.specs.Ranges.{expression, tag, esm}
 use Rattle.scan.specs.Scan.{choice, stepScan, runScan}
 use Rattle.scan.specs.Answer.{Said, verdictRefusal, refusal, answerOf}
-use Rattle.scan.specs.Call.{jobOf, freshScan, givenScan}
+use Rattle.scan.specs.Call.{jobOf, freshIn, freshScan, givenScan}
 use Rattle.scan.specs.Alone.{runAlone}
 
 -- flags: counting, or with a verdict source
@@ -39,7 +40,7 @@ pub record Case : Type 0 where
 
 -- flow kind, room for 50 events, more steps than any row takes
 pub answerTo : Case → Said
-answerTo c = answerOf (runAlone (c .page) 100 (c .told) (freshScan (jobOf (c .construct) 0 (c .flags) (length (c .page)) 0 100)))
+answerTo c = answerOf (runAlone (c .page) 100 (c .told) (freshScan (c .page) (jobOf (c .construct) 0 (c .flags) (length (c .page)) 0 200)))
 
 pub allOf : List (ℕ × ℕ) → List ℕ → Bool
 allOf [] values = true
@@ -52,7 +53,7 @@ pub allRight : List Case → Bool
 allRight [] = true
 allRight (c ∷ cs) = right c && allRight cs
 
--- the values of Done are its end, event count and steps; of 6 and 7 its place, where-number and, of 7, its note
+-- the values of Done are its end, event count and steps; of 6 and 7 its place, line, column, where-number and, of 7, its note
 pub bench : List Case
 bench =
     -- {}
@@ -65,7 +66,7 @@ bench =
     record { construct = expression; flags = counting; page = 123 ∷ 97 ∷ 123 ∷ 98 ∷ 125 ∷ 99 ∷ 125 ∷ []; told = []; number = 0; values = (0, 7) ∷ [] }
     ∷
     -- {a
-    record { construct = expression; flags = counting; page = 123 ∷ 97 ∷ []; told = []; number = 6; values = (0, 2) ∷ (1, 19) ∷ [] }
+    record { construct = expression; flags = counting; page = 123 ∷ 97 ∷ []; told = []; number = 6; values = (0, 2) ∷ (3, 19) ∷ [] }
     ∷
     -- {a}b}
     record { construct = expression; flags = counting; page = 123 ∷ 97 ∷ 125 ∷ 98 ∷ 125 ∷ []; told = []; number = 0; values = (0, 3) ∷ [] }
@@ -83,22 +84,22 @@ bench =
     record { construct = tag; flags = counting; page = 60 ∷ 32 ∷ 97 ∷ 62 ∷ []; told = []; number = 1; values = [] }
     ∷
     -- <a.b:c>
-    record { construct = tag; flags = counting; page = 60 ∷ 97 ∷ 46 ∷ 98 ∷ 58 ∷ 99 ∷ 62 ∷ []; told = []; number = 7; values = (0, 4) ∷ (1, 5) ∷ [] }
+    record { construct = tag; flags = counting; page = 60 ∷ 97 ∷ 46 ∷ 98 ∷ 58 ∷ 99 ∷ 62 ∷ []; told = []; number = 7; values = (0, 4) ∷ (3, 5) ∷ [] }
     ∷
     -- <a:b.c>
-    record { construct = tag; flags = counting; page = 60 ∷ 97 ∷ 58 ∷ 98 ∷ 46 ∷ 99 ∷ 62 ∷ []; told = []; number = 7; values = (0, 4) ∷ (1, 8) ∷ [] }
+    record { construct = tag; flags = counting; page = 60 ∷ 97 ∷ 58 ∷ 98 ∷ 46 ∷ 99 ∷ 62 ∷ []; told = []; number = 7; values = (0, 4) ∷ (3, 8) ∷ [] }
     ∷
     -- <a b="c">
     record { construct = tag; flags = counting; page = 60 ∷ 97 ∷ 32 ∷ 98 ∷ 61 ∷ 34 ∷ 99 ∷ 34 ∷ 62 ∷ []; told = []; number = 0; values = (0, 9) ∷ [] }
     ∷
     -- <a b=<
-    record { construct = tag; flags = counting; page = 60 ∷ 97 ∷ 32 ∷ 98 ∷ 61 ∷ 60 ∷ []; told = []; number = 7; values = (0, 5) ∷ (1, 16) ∷ (2, 4) ∷ [] }
+    record { construct = tag; flags = counting; page = 60 ∷ 97 ∷ 32 ∷ 98 ∷ 61 ∷ 60 ∷ []; told = []; number = 7; values = (0, 5) ∷ (3, 16) ∷ (4, 4) ∷ [] }
     ∷
     -- <!--
-    record { construct = tag; flags = counting; page = 60 ∷ 33 ∷ 45 ∷ 45 ∷ []; told = []; number = 7; values = (0, 1) ∷ (1, 1) ∷ (2, 1) ∷ [] }
+    record { construct = tag; flags = counting; page = 60 ∷ 33 ∷ 45 ∷ 45 ∷ []; told = []; number = 7; values = (0, 1) ∷ (3, 1) ∷ (4, 1) ∷ [] }
     ∷
     -- <a b="c
-    record { construct = tag; flags = counting; page = 60 ∷ 97 ∷ 32 ∷ 98 ∷ 61 ∷ 34 ∷ 99 ∷ []; told = []; number = 6; values = (0, 7) ∷ (1, 17) ∷ [] }
+    record { construct = tag; flags = counting; page = 60 ∷ 97 ∷ 32 ∷ 98 ∷ 61 ∷ 34 ∷ 99 ∷ []; told = []; number = 6; values = (0, 7) ∷ (3, 17) ∷ [] }
     ∷
     -- import a
     record { construct = esm; flags = verdicts; page = 105 ∷ 109 ∷ 112 ∷ 111 ∷ 114 ∷ 116 ∷ 32 ∷ 97 ∷ []; told = Fine ∷ []; number = 0; values = (0, 8) ∷ [] }
@@ -141,7 +142,9 @@ unfolding
     answerOf
     refusal
     verdictRefusal
-    freshScan
+    freshIn
     givenScan
+    lineOf
+    firstOf
     if_then_else_
 bench-cases = refl

@@ -14,6 +14,8 @@ use Rattle.base.specs.Number as number
 use Rattle.base.specs.declared.Verdict.{Verdict}
 use Rattle.base.specs.declared.Verdict.the-variants.{Fine}
 use Rattle.events.specs.Words.{roomIn}
+use Rattle.page.specs.declared.line.Line.{Line}
+use Rattle.page.specs.Line.{lineAt, firstLine}
 use Rattle.page.specs.Page.{pageOf, pageCheck}
 use Rattle.page.specs.declared.Checked.{Checked}
 use Rattle.page.specs.declared.Checked.the-variants as checked
@@ -24,15 +26,17 @@ use Rattle.scan.specs.declared.Scan.{Scan}
 use Rattle.scan.specs.declared.Ran.{Ran}
 use Rattle.scan.specs.declared.Began.{Began}
 use Rattle.scan.specs.declared.Began.the-variants as began
+use Rattle.scan.specs.Lines.{firstLines, linesInRange}
 use Rattle.scan.specs.Scan.{stepBound, runScan, runWords}
-use Rattle.scan.specs.Answer.{Said, said, saidBy, refused, answerOf}
+use Rattle.scan.specs.Answer.{Said, said, placed, saidBy, refused, answerOf}
 
 -- a scan that a call can have given, by the ranges of docs/NUMBERS.md
 unfoldable pub scanInRange : Scan → Bool
 scanInRange s =
     inRange (s .tokenizer)
     && (leb (s .used) (roomIn (s .tokenizer .job .words))
-    && leb (s .steps) (stepBound (s .tokenizer .job)))
+    && (leb (s .steps) (stepBound (s .tokenizer .job))
+    && linesInRange (s .lines)))
 
 -- the answer of a scan that is handed over
 unfoldable pub askedAnswer : Scan → Said
@@ -82,6 +86,7 @@ givenScan s v =
     let t = s .tokenizer in
     record {
       tokenizer = record { job = t .job; state = verdictState (t .job .construct); at = t .at; regs = t .regs; heard = v };
+      lines = s .lines;
       used = s .used;
       steps = s .steps;
     }
@@ -112,13 +117,19 @@ allFlags = 3
 abbrev pub firstState : ℕ → ℕ
 firstState construct = if eqb construct esm then mdxEsmStart else if eqb construct tag then mdxJsxStart else mdxExpressionStart
 
-unfoldable pub freshScan : Job → Scan
-freshScan j =
+-- a scan that has made no step, whose start is in a line
+unfoldable pub freshIn : Line → Job → Scan
+freshIn line j =
     record {
       tokenizer = record { job = j; state = firstState (j .construct); at = j .start; regs = noRegs; heard = Fine };
+      lines = firstLines line;
       used = 0;
       steps = 0;
     }
+
+-- of a page
+abbrev pub freshScan : List ℕ → Job → Scan
+freshScan page j = freshIn (lineAt page (j .start)) j
 
 -- where no scan is: one that has ended on an empty page, with nothing there
 abbrev pub noScan : Scan
@@ -131,6 +142,7 @@ noScan =
         regs = noRegs;
         heard = Fine;
       };
+      lines = firstLines firstLine;
       used = 0;
       steps = 0;
     }
@@ -148,16 +160,16 @@ begunBy (began.Started s) = started s
 begunBy (began.Refused a) = notStarted (saidBy a)
 
 -- rows 2, 3 and 4
-abbrev pub begunIf : Checked → Scan → Begun
-begunIf checked.Good s = started s
-begunIf checked.TooLong s = notStarted (said number.tooLong [])
-begunIf checked.BadStart s = notStarted (said number.badStart [])
-begunIf (checked.BadText offset) s = notStarted (said number.badText (offset ∷ []))
+abbrev pub begunIf : Checked → Job → Begun
+begunIf (checked.Good line) j = started (freshIn line j)
+begunIf checked.TooLong j = notStarted (said number.tooLong [])
+begunIf checked.BadStart j = notStarted (said number.badStart [])
+begunIf (checked.BadText p) j = notStarted (said number.badText (placed p []))
 
 -- a page of n bytes at a place of the lent bytes, with an event buffer of so many words
 unfoldable pub beginOf : List ℕ → ℕ → ℕ → ℕ → ℕ → ℕ → ℕ → ℕ → Begun
 beginOf bytes at n start construct kind flags words =
-    if numbersListed construct kind flags then begunIf (pageCheck bytes at n start) (freshScan (jobOf construct kind flags n start words))
+    if numbersListed construct kind flags then begunIf (pageCheck bytes at n start) (jobOf construct kind flags n start words)
     else notStarted refused
 
 -- ---- a single scan in one call

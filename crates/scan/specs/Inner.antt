@@ -1,8 +1,9 @@
 -- What inner functions ask of their callers, so that no sum of theirs wraps. No promise to a user of the library cites these.
 use Prim.Native.Nat.{ℕ, _+_, _≤_, _<_, _^_}
 use mathlib.Core.Path.{_≡_}
-use mathlib.Core.Bool.{Bool, true, not}
+use mathlib.Core.Bool.{Bool, true, false, not}
 use mathlib.Core.List.{List, [], _∷_}
+use lib.Dec.{eqb}
 use lib.ListN.{length}
 use Rattle.base.specs.Byte.{lineFeed, leftBrace, rightBrace, endOfPage}
 use Rattle.base.specs.If.{among}
@@ -14,7 +15,13 @@ use Rattle.base.specs.declared.Marks.the-variants.{Nothing}
 use Rattle.events.specs.Words.{roomIn}
 use Rattle.tokenizer.specs.declared.Tokenizer.{Tokenizer}
 use Rattle.tokenizer.specs.Decision.{decision}
+use Rattle.scan.specs.declared.lines.Lines.{Lines}
 use Rattle.scan.specs.declared.Scan.{Scan}
+use Rattle.scan.specs.Lines.{highest}
+
+-- no line has a higher number than a page's lines have
+abbrev pub Small : Lines → Type 0
+Small l = (l .line .number ≤ highest) × (l .kept .number ≤ highest) × (l .fault .number ≤ highest)
 
 -- a scan over a page of n bytes and w lent words
 pub record Fit (s : Scan) (n w : ℕ) : Type 0 where
@@ -25,6 +32,7 @@ pub record Fit (s : Scan) (n w : ℕ) : Type 0 where
   pub saved : s .tokenizer .regs .saved ≤ n
   pub words : s .tokenizer .job .words ≡ w
   pub used : s .used ≤ roomIn w
+  pub lines : Small (s .lines)
 
 -- what the count of events and steps asks
 pub record Counts (s : Scan) (n : ℕ) : Type 0 where
@@ -45,6 +53,7 @@ plainData b = not (among (lineFeed ∷ leftBrace ∷ rightBrace ∷ endOfPage �
 abbrev pub insideAName : ℕ → Bool
 insideAName name = within mdxJsxPrimaryName mdxJsxAttributeLocalName name
 
--- where the test r holds of a state's number, a quote and a byte, the state eats the byte and stays, with no event
-abbrev pub Glides : ℕ → ℕ → ℕ → Bool → Type 0
-Glides name quote b r = (page : List ℕ) (t : Tokenizer) → t .state ≡ name → t .regs .quote ≡ quote → r ≡ true → decision page t b ≡ eat name Nothing
+-- where the test r holds of a state's number, a quote and a byte, the state eats the byte and stays, with no event, in the same line
+pub record Glides (name quote b : ℕ) (r : Bool) : Type 0 where
+  pub stays : (page : List ℕ) (t : Tokenizer) → t .state ≡ name → t .regs .quote ≡ quote → r ≡ true → decision page t b ≡ eat name Nothing
+  pub inLine : r ≡ true → eqb b lineFeed ≡ false

@@ -1,4 +1,4 @@
--- One step of a scan, and a run of steps: the tokenizer's decision, its events, and the count of steps.
+-- One step of a scan, and a run of steps: the tokenizer's decision, its events, its lines, and the count of steps.
 --
 -- docs/SCOPE.md, 'Steps': "One call of one state is a step; so is applying a verdict." 'The answer table': "A step writes all its events
 -- or none; full room wins over what that step would have answered."
@@ -11,14 +11,18 @@ use Rattle.base.specs.Page.{byteAt}
 use Rattle.base.specs.State.{full, rests}
 use Rattle.base.specs.Decide.{retry, listOf, countOf}
 use Rattle.base.specs.declared.Marks.the-variants.{Nothing}
+use Rattle.base.specs.declared.Mark.{Mark}
 use Rattle.base.specs.declared.Move.{Move}
+use Rattle.page.specs.declared.line.Line.{Line}
 use Rattle.events.specs.declared.Event.{Event}
 use Rattle.events.specs.Event.{eventsAt}
 use Rattle.events.specs.Words.{roomIn, written}
 use Rattle.tokenizer.specs.declared.Job.{Job}
 use Rattle.tokenizer.specs.Decision.{decision}
 use Rattle.tokenizer.specs.Moved.{oneMore, moved}
+use Rattle.scan.specs.declared.lines.Lines.{Lines}
 use Rattle.scan.specs.declared.Scan.{Scan}
+use Rattle.scan.specs.Lines.{linePast, pointIn, linesAfter}
 
 -- "A run over n bytes takes at most 8(n+1) steps", n counting from the start to the page's end
 abbrev pub stepBound : Job → ℕ
@@ -40,19 +44,33 @@ lacks s m = ltb (roomIn (s .tokenizer .job .words) - s .used) (countOf (m .marks
 abbrev pub carriedOut : Scan → Move → Move
 carriedOut s m = if lacks s m then retry full Nothing else m
 
+-- the line of the byte that comes next, and the lines after a decision
+abbrev pub lineNext : List ℕ → Scan → Move → Line
+lineNext page s m = if m .eat then linePast (s .lines .line) (s .tokenizer .at) (byteAt page (s .tokenizer .at)) else s .lines .line
+
+abbrev pub linesStep : List ℕ → Scan → Move → Lines
+linesStep page s m = linesAfter page (m .effect) (lineNext page s m) (s .lines)
+
+-- the events of marks at a scan's place, whose byte is b: each stands there or one byte past it, in the line of its offset
+abbrev pub marksAt : ℕ → Scan → List Mark → List Event
+marksAt b s marks =
+    let line = s .lines .line in
+    let at = s .tokenizer .at in
+    eventsAt (pointIn line at) (pointIn (linePast line at b) (at + 1)) marks
+
 -- the scan after a decision that writes n events
-abbrev pub movedScan : Scan → Move → ℕ → Scan
-movedScan s m n = record { tokenizer = moved (s .tokenizer) m; used = s .used + n; steps = counted s }
+abbrev pub movedScan : Scan → Move → ℕ → Lines → Scan
+movedScan s m n lines = record { tokenizer = moved (s .tokenizer) m; lines = lines; used = s .used + n; steps = counted s }
 
 -- one step
 unfoldable pub stepScan : List ℕ → Scan → Scan
 stepScan page s =
     let m = carriedOut s (choice page s) in
-    movedScan s m (countOf (m .marks))
+    movedScan s m (countOf (m .marks)) (linesStep page s m)
 
 -- and its events
 unfoldable pub stepEvents : List ℕ → Scan → List Event
-stepEvents page s = eventsAt (s .tokenizer .at) (listOf (carriedOut s (choice page s) .marks))
+stepEvents page s = marksAt (byteAt page (s .tokenizer .at)) s (listOf (carriedOut s (choice page s) .marks))
 
 -- at most k steps: a scan that has ended or asks makes none
 unfoldable pub runScan : List ℕ → ℕ → Scan → Scan

@@ -1,32 +1,50 @@
 // What a scan that stands somewhere is answered.
 use crate::Answer;
 use crate::Scan;
+use crate::Tally;
+use crate::lines::spot_in;
 use base::state;
 ghost use mathlib.Core.Path.{_≡_};
-ghost use Rattle.scan.specs.Answer.{saidBy, verdictRefusal, refusal, answerOf};
+ghost use Rattle.scan.specs.Answer.{saidBy, tallyOf, verdictRefusal, refusal, answerOf};
 ghost use Rattle.scan.specs.Call.{askedAnswer};
 
 impl Scan {
+    fn tally(self) -> Tally
+        ensures { λ r. ⌜ r ≡ tallyOf self ⌝ }
+    {
+        Tally {
+            events: self.used,
+            steps: self.steps,
+        }
+    }
+
     // The answer of a scan that a verdict ended.
     fn verdict_refusal(self) -> Answer
         ensures { λ r. ⌜ saidBy r ≡ verdictRefusal self ⌝ }
     {
         let tokenizer = self.tokenizer;
         let regs = tokenizer.regs;
+        let lines = self.lines;
         let name = tokenizer.state;
+        let tally = self.tally();
+        let number = regs.last;
         match name {
-            state::VERDICT_ERROR => Answer::VerdictError {
-                place: regs.fault,
-                number: regs.last,
-                events: self.used,
-                steps: self.steps,
-            },
-            state::VERDICT_EOF => Answer::VerdictEof {
-                place: tokenizer.at,
-                number: regs.last,
-                events: self.used,
-                steps: self.steps,
-            },
+            state::VERDICT_ERROR => {
+                let spot = spot_in(lines.fault, regs.fault);
+                Answer::VerdictError {
+                    spot,
+                    number,
+                    tally,
+                }
+            }
+            state::VERDICT_EOF => {
+                let spot = spot_in(lines.line, tokenizer.at);
+                Answer::VerdictEof {
+                    spot,
+                    number,
+                    tally,
+                }
+            }
             _ => Answer::BadCall,
         }
     }
@@ -37,34 +55,22 @@ impl Scan {
     {
         let tokenizer = self.tokenizer;
         let regs = tokenizer.regs;
-        let place = tokenizer.at;
+        let lines = self.lines;
         let name = tokenizer.state;
-        let events = self.used;
-        let steps = self.steps;
+        let spot = spot_in(lines.line, tokenizer.at);
+        let tally = self.tally();
+        let site = regs.site;
+        let note = regs.note;
         match name {
-            state::NOT_ASCII => Answer::NotAscii {
-                place,
-                events,
-                steps,
-            },
-            state::EOF => Answer::Eof {
-                place,
-                site: regs.site,
-                events,
-                steps,
-            },
+            state::NOT_ASCII => Answer::NotAscii { spot, tally },
+            state::EOF => Answer::Eof { spot, site, tally },
             state::UNEXPECTED => Answer::Unexpected {
-                place,
-                site: regs.site,
-                note: regs.note,
-                events,
-                steps,
+                spot,
+                site,
+                note,
+                tally,
             },
-            state::FULL => Answer::Full {
-                place,
-                events,
-                steps,
-            },
+            state::FULL => Answer::Full { spot, tally },
             _ => self.verdict_refusal(),
         }
     }
@@ -74,29 +80,18 @@ impl Scan {
         ensures { λ r. ⌜ saidBy r ≡ answerOf self ⌝ }
     {
         let tokenizer = self.tokenizer;
-        let at = tokenizer.at;
+        let lines = self.lines;
+        let end = tokenizer.at;
         let name = tokenizer.state;
-        let events = self.used;
-        let steps = self.steps;
+        let spot = spot_in(lines.line, end);
+        let tally = self.tally();
         if state::FIRST_RUNNING <= name {
-            return Answer::Paused {
-                place: at,
-                events,
-                steps,
-            };
+            return Answer::Paused { spot, tally };
         }
         match name {
-            state::DONE => Answer::Done {
-                end: at,
-                events,
-                steps,
-            },
-            state::NOK => Answer::Nok { events, steps },
-            state::ASKING => Answer::Asking {
-                place: at,
-                events,
-                steps,
-            },
+            state::DONE => Answer::Done { end, tally },
+            state::NOK => Answer::Nok { tally },
+            state::ASKING => Answer::Asking { spot, tally },
             _ => self.refusal(),
         }
     }

@@ -3,9 +3,13 @@ use crate::Answer;
 use crate::Began;
 use crate::Ran;
 use crate::Scan;
+use crate::lines::Lines;
+use crate::lines::lines_of;
 use base::Verdict;
 use base::state;
 use page::Checked;
+use page::line::Line;
+use page::line::first_line;
 use tokenizer::Job;
 use tokenizer::Regs;
 use tokenizer::Tokenizer;
@@ -13,7 +17,8 @@ use tokenizer::ranges::construct_listed;
 use tokenizer::ranges::kind_listed;
 ghost use mathlib.Core.Path.{_≡_};
 ghost use Rattle.tokenizer.specs.Registers.{noRegs};
-ghost use Rattle.scan.specs.Call.{begunBy, begunIf, numbersListed, firstState, freshScan, noScan, beginOf, leftBy, singleOf};
+ghost use Rattle.scan.specs.Lines.{firstLines};
+ghost use Rattle.scan.specs.Call.{begunBy, begunIf, numbersListed, firstState, freshIn, noScan, beginOf, leftBy, singleOf};
 
 // Flags: a verdict source, an interrupt, and both.
 pub const ASKS: u8 = 1;
@@ -49,15 +54,22 @@ pub fn numbers_listed(construct: u8, kind: u8, flags: u8) -> bool
 }
 
 // The scan, if its page is good.
-fn begin_if_good(checked: Checked, scan: Scan) -> Began
-    ensures { λ r. ⌜ begunBy r ≡ begunIf checked scan ⌝ }
+fn begin_if_good(checked: Checked, job: Job) -> Began
+    ensures { λ r. ⌜ begunBy r ≡ begunIf checked job ⌝ }
 {
     match checked {
-        Checked::Good => Began::Started(scan),
+        Checked::Good(line) => Began::Started(Scan::fresh(job, line)),
         Checked::TooLong => Began::Refused(Answer::TooLong),
         Checked::BadStart => Began::Refused(Answer::BadStart),
-        Checked::BadText(offset) => Began::Refused(Answer::BadText { offset }),
+        Checked::BadText(spot) => Began::Refused(Answer::BadText { spot }),
     }
+}
+
+// The lines of a scan that begins in a line: nothing is looked ahead yet.
+fn first_lines(line: Line) -> Lines
+    ensures { λ r. ⌜ r ≡ firstLines line ⌝ }
+{
+    lines_of(line, first_line(), first_line())
 }
 
 // Registers at rest.
@@ -100,8 +112,10 @@ pub fn no_scan() -> Scan
         regs,
         heard: Verdict::Fine,
     };
+    let lines = first_lines(first_line());
     Scan {
         tokenizer,
+        lines,
         used: 0,
         steps: 0,
     }
@@ -154,9 +168,9 @@ pub fn single(
 }
 
 impl Scan {
-    // A scan that has made no step.
-    fn fresh(job: Job) -> Self
-        ensures { λ r. ⌜ r ≡ freshScan job ⌝ }
+    // A scan that has made no step, whose start is in a line.
+    fn fresh(job: Job, line: Line) -> Self
+        ensures { λ r. ⌜ r ≡ freshIn line job ⌝ }
     {
         let regs = no_regs();
         let tokenizer = Tokenizer {
@@ -166,8 +180,10 @@ impl Scan {
             regs,
             heard: Verdict::Fine,
         };
+        let lines = first_lines(line);
         Scan {
             tokenizer,
+            lines,
             used: 0,
             steps: 0,
         }
@@ -197,9 +213,8 @@ impl Scan {
                 start,
                 words,
             };
-            let scan = Scan::fresh(job);
             let checked = page::check(bytes, at, length, start);
-            begin_if_good(checked, scan)
+            begin_if_good(checked, job)
         } else {
             Began::Refused(Answer::BadCall)
         }

@@ -34,7 +34,11 @@ impl Scan {
             if events::room_in(job.words) < self.used {
                 return false;
             }
-            return self.steps <= step_bound(job.length, job.start);
+            if step_bound(job.length, job.start) < self.steps {
+                return false;
+            }
+            let lines = self.lines;
+            return lines.in_range();
         }
         false
     }
@@ -111,8 +115,10 @@ impl Scan {
             regs,
             heard: verdict,
         };
+        let lines = self.lines;
         Scan {
             tokenizer,
+            lines,
             used: self.used,
             steps: self.steps,
         }

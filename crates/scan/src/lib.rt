@@ -1,83 +1,83 @@
-// A scan by value: the tokenizer, how many events it has written to the lent words, and how many steps it has made. The Rust is
+// A scan by value: the tokenizer, the lines of its places, how many events it has written to the lent words, and how many steps it has made. The Rust is
 // `tokenizer.rs`; pausing, verdict numbers and the answers are ours.
 //
-// Its steps are in `stepping`, its answers in `answering`, a new scan in `beginning`, and the calls of one that was begun in `calling`.
+// Its steps are in `stepping`, its lines in `lines`, its answers in `answering`, a new scan in `beginning`, and the calls of one that was begun in `calling`.
+use crate::lines::Lines;
+use page::line::Spot;
 use tokenizer::Tokenizer;
 
 pub mod answering;
 pub mod beginning;
 pub mod calling;
+pub mod lines;
 pub mod stepping;
 
 pub struct Scan {
     pub tokenizer: Tokenizer,
+    pub lines: Lines,
     pub used: usize,
     pub steps: usize,
 }
 
-// What a call is answered. Places count from the page's first byte; `site` is the where-number.
+// What a scan has made so far: events written, and steps.
+pub struct Tally {
+    pub events: usize,
+    pub steps: usize,
+}
+
+// What a call is answered. Places count from the page's first byte, and each has its line and column; `site` is the where-number.
 pub enum Answer {
     Done {
         end: usize,
-        events: usize,
-        steps: usize,
+        tally: Tally,
     },
     Nok {
-        events: usize,
-        steps: usize,
+        tally: Tally,
     },
     TooLong,
     BadStart,
     BadText {
-        offset: usize,
+        spot: Spot,
     },
     NotAscii {
-        place: usize,
-        events: usize,
-        steps: usize,
+        spot: Spot,
+        tally: Tally,
     },
     Eof {
-        place: usize,
+        spot: Spot,
         site: u8,
-        events: usize,
-        steps: usize,
+        tally: Tally,
     },
     Unexpected {
-        place: usize,
+        spot: Spot,
         site: u8,
         note: u8,
-        events: usize,
-        steps: usize,
+        tally: Tally,
     },
     VerdictError {
-        place: usize,
+        spot: Spot,
         number: u32,
-        events: usize,
-        steps: usize,
+        tally: Tally,
     },
     VerdictEof {
-        place: usize,
+        spot: Spot,
         number: u32,
-        events: usize,
-        steps: usize,
+        tally: Tally,
     },
     Full {
-        place: usize,
-        events: usize,
-        steps: usize,
+        spot: Spot,
+        tally: Tally,
     },
     BadCall,
     // The scan waits for a verdict on its body.
     Asking {
-        place: usize,
-        events: usize,
-        steps: usize,
+        spot: Spot,
+        tally: Tally,
     },
     // The allowance is spent.
     Paused {
-        place: usize,
-        events: usize,
-        steps: usize,
+        spot: Spot,
+        tally: Tally,
     },
     // A verdict is kept; the next step applies it.
     Kept,

@@ -1,5 +1,8 @@
 // Steps: the decision of the state that a scan is in, its events, and the count; and the loop that makes them.
 use crate::Scan;
+use crate::lines::Lines;
+use crate::lines::line_past;
+use crate::lines::point_in;
 use base::Marks;
 use base::Move;
 use base::byte;
@@ -8,12 +11,14 @@ use base::eat;
 use base::retry;
 use base::state;
 ghost use mathlib.Core.Path.{_≡_};
-ghost use Prim.Native.Nat.{_+_, _-_, _*_, _≤_};
+ghost use Prim.Native.Nat.{_+_, _-_, _*_, _≤_, _<_, _^_};
 ghost use lib.ListN.{length};
-ghost use Rattle.base.specs.Page.{pageLimit};
+ghost use Rattle.base.specs.Page.{pageLimit, byteAt};
+ghost use Rattle.base.specs.Decide.{listOf, countOf};
 ghost use Rattle.events.specs.Words.{written};
 ghost use Rattle.tokenizer.specs.Moved.{oneMore};
-ghost use Rattle.scan.specs.Scan.{movedScan, stepScan, stepEvents, runScan, runWords};
+ghost use Rattle.scan.specs.Lines.{highest};
+ghost use Rattle.scan.specs.Scan.{movedScan, linesStep, marksAt, stepScan, stepEvents, runScan, runWords};
 ghost use Rattle.scan.specs.Inner.{Fit, Counts, Stepping, plainData, insideAName, Glides};
 
 // Data that neither ends nor nests an expression.
@@ -36,7 +41,8 @@ fn inside_a_name(name: u8) -> bool
     }
 }
 
-// Whether the state passes the byte with no event and no change but of place: where most bytes of a page are.
+// Whether the state passes the byte with no event and no change but of place: where most bytes of a page are. None of them is a line
+// feed, so that the lines stay as they are.
 fn glides(name: u8, quote: u16, b: u16) -> bool
     ensures { λ r. ⌜ Glides name quote b r ⌝ }
 {
@@ -71,10 +77,10 @@ fn count_step(steps: usize, length: usize, start: usize) -> usize
 }
 
 impl Scan {
-    // The scan after a decision whose n events are written.
-    fn moved(self, m: Move, n: usize) -> Self
+    // The scan after a decision whose n events are written, and its lines.
+    fn moved(self, m: Move, n: usize, lines: Lines) -> Self
         requires { ⌜ Counts self n ⌝ }
-        ensures { λ r. ⌜ r ≡ movedScan self m n ⌝ }
+        ensures { λ r. ⌜ r ≡ movedScan self m n lines ⌝ }
     {
         let tokenizer = self.tokenizer;
         let job = tokenizer.job;
@@ -82,9 +88,37 @@ impl Scan {
         let tokenizer = tokenizer.moved(m);
         Scan {
             tokenizer,
+            lines,
             used: self.used + n,
             steps,
         }
+    }
+
+    // The lines after a decision at the byte b.
+    fn lines_after(self, page: &[u8], m: Move, b: u16) -> Lines
+        requires { ⌜ (self .tokenizer .at < 2 ^ 63) × (b ≡ byteAt (now page) (self .tokenizer .at)) ⌝ }
+        ensures { λ r. ⌜ r ≡ linesStep (now (page .entry)) self m ⌝ }
+    {
+        let lines = self.lines;
+        let line = lines.line;
+        let effect = m.effect;
+        if m.eat {
+            return lines.after(page, effect, line_past(line, self.tokenizer.at, b));
+        }
+        lines.after(page, effect, line)
+    }
+
+    // The events of a step at the byte b are written.
+    fn put_events(self, words: &mut [u32], marks: Marks, b: u16)
+        requires { ⌜ (self .lines .line .number ≤ highest) × (self .tokenizer .at ≤ pageLimit) × ((self .used + countOf marks) * 4 ≤ length (now words)) ⌝ }
+        ensures { λ _. ⌜ now (words .exit) ≡ written (now (words .entry)) (self .used) (marksAt b self (listOf marks)) ⌝ }
+    {
+        let lines = self.lines;
+        let line = lines.line;
+        let at = self.tokenizer.at;
+        let here = point_in(line, at);
+        let past = point_in(line_past(line, at, b), at + 1);
+        events::put(words, self.used, here, past, marks);
     }
 
     // One step of the state that the scan is in, whose byte is b.
@@ -99,13 +133,13 @@ impl Scan {
         let marks = m.marks;
         let n = events::count(marks);
         if n == 0 {
-            return self.moved(m, n);
+            return self.moved(m, n, self.lines_after(page, m, b));
         }
         if events::room_in(words.len()) - used < n {
-            return self.moved(retry(state::FULL, Marks::Nothing), 0);
+            return self.moved(retry(state::FULL, Marks::Nothing), 0, self.lines);
         }
-        events::put(words, used, tokenizer.at as u32, marks);
-        self.moved(m, n)
+        self.put_events(words, marks, b);
+        self.moved(m, n, self.lines_after(page, m, b))
     }
 
     // Steps until the scan asks or has ended, or the allowance is spent.
@@ -123,7 +157,7 @@ impl Scan {
             }
             let b = byte_at(page, s.tokenizer.at);
             if glides(name, s.tokenizer.regs.quote, b) {
-                s = s.moved(eat(name, Marks::Nothing), 0);
+                s = s.moved(eat(name, Marks::Nothing), 0, s.lines);
                 left = left - 1;
                 continue;
             }

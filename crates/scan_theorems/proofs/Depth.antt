@@ -29,7 +29,7 @@ use Rattle.tokenizer.specs.declared.Regs.{Regs}
 use Rattle.tokenizer.specs.declared.Tokenizer.{Tokenizer}
 use Rattle.scan.specs.declared.Scan.{Scan}
 use Rattle.scan.specs.Scan.{choice, stepScan}
-use Rattle.scan.specs.Call.{givenScan, freshScan}
+use Rattle.scan.specs.Call.{givenScan, freshIn, freshScan}
 use Rattle.scan.specs.Alone.{runAlone}
 use Rattle.scan_theorems.proofs.Tests.{clash}
 use Rattle.scan_theorems.proofs.There.{byte-there}
@@ -205,9 +205,9 @@ depth-alone page k =
     (λ s v h p. told-keeps (Paying page) s v (λ e. record { within = within-given page s v (p .within) e h; tag = p .tag; depth = p .depth }) p)
 
 pub no-depth-is-cut : DepthCounted
-unfolding freshScan jobInRange if_then_else_
+unfolding freshIn jobInRange if_then_else_
 no-depth-is-cut page j k vs h l vr c =
-    let d = depth-alone page k vs (freshScan j) vr (record { within = within-fresh page j h l; tag = c; depth = omega arith }) .depth in
+    let d = depth-alone page k vs (freshScan page j) vr (record { within = within-fresh page j h l; tag = c; depth = omega arith }) .depth in
     let short = leb-true (j .length) pageLimit (both (leb (j .length) pageLimit) _ h .0) in
-    let depth = runAlone page k vs (freshScan j) .tokenizer .regs .depth in
+    let depth = runAlone page k vs (freshScan page j) .tokenizer .regs .depth in
     (d, λ b. rw (lt-ltb depth pageLimit (omega (arith, d, b, short))))

@@ -20,14 +20,13 @@ use Rattle.base.specs.State as state
 use Rattle.base.specs.Decide.{retry, listOf, countOf}
 use Rattle.base.specs.declared.Marks.the-variants.{Nothing}
 use Rattle.base.specs.declared.Move.{Move}
-use Rattle.events.specs.Event.{eventsAt}
 use Rattle.events.specs.Words.{roomIn}
 use Rattle.events.proofs.Laws.{count-is}
 use Rattle.tokenizer.specs.Decision.{refusesNotAscii, notAscii, takesAscii, stateDecision, decision}
 use Rattle.tokenizer.specs.Moved.{moved}
 use Rattle.tokenizer.specs.Ranges.{esm, inRange}
 use Rattle.scan.specs.declared.Scan.{Scan}
-use Rattle.scan.specs.Scan.{choice, lacks, carriedOut, stepScan}
+use Rattle.scan.specs.Scan.{choice, lacks, carriedOut, marksAt, stepScan}
 use Rattle.scan.specs.Call.{scanInRange}
 use Rattle.scan_theorems.specs.Rows.{tagState, takesAnyByte, notAsciiMet, endMet, wayOn, tooManyEvents, RowsOf}
 use Rattle.scan_theorems.specs.Statement.{ExactRows}
@@ -100,7 +99,7 @@ module _ (page : List ℕ) (s : Scan) (l : 32 ≤ s .tokenizer .state) (h : s .t
   unfolding stepScan moved
   next-is x e = (
     ap (λ (y : Move). carriedOut s y .next) e,
-    ap (λ (y : Move). ltb (roomIn (s .tokenizer .job .words) - s .used) (length (eventsAt (s .tokenizer .at) (listOf (y .marks))))) e ∙ ap (ltb (roomIn (s .tokenizer .job .words) - s .used)) (count-is (x .marks) (s .tokenizer .at)),
+    ap (λ (y : Move). ltb (roomIn (s .tokenizer .job .words) - s .used) (length (marksAt b s (listOf (y .marks))))) e ∙ ap (ltb (roomIn (s .tokenizer .job .words) - s .used)) (count-is (x .marks) _ _),
   )
 
   refused : refusesNotAscii n b ≡ true → RowsOf page s

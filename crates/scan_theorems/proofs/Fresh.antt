@@ -60,6 +60,10 @@ start-within j h =
     let b = both (leb (j .start) (j .length)) _ (a .1) in
     leb-true (j .start) (j .length) (b .0)
 
+pub length-short : (j : Job) → jobInRange j ≡ true → j .length ≤ pageLimit
+unfolding jobInRange
+length-short j h = leb-true (j .length) pageLimit (both (leb (j .length) pageLimit) _ h .0)
+
 pub sound-fresh : (page : List ℕ) (j : Job) → jobInRange j ≡ true → length page ≡ j .length → Sound page (fresh j)
 unfolding isReturn verdictInRange
 sound-fresh page j h s =

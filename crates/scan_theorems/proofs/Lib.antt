@@ -27,6 +27,8 @@ pub mod Given
 pub mod Fresh
 pub mod Scans
 pub mod Calls
+pub mod FaultPlaces
+pub mod Lined
 pub mod Depth
 pub mod Endings
 pub mod ExactRows

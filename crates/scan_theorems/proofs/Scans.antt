@@ -16,6 +16,8 @@ use Rattle.base.specs.Decide.{retry, countOf}
 use Rattle.base.specs.declared.Marks.the-variants.{Nothing}
 use Rattle.base.specs.declared.Move.{Move}
 use Rattle.base.specs.declared.Verdict.{Verdict}
+use Rattle.base.specs.Page.{pageLimit}
+use Rattle.page.proofs.Lines.{line-within}
 use Rattle.events.specs.Words.{roomIn}
 use Rattle.tokenizer.specs.declared.Job.{Job}
 use Rattle.tokenizer.specs.declared.Tokenizer.{Tokenizer}
@@ -23,30 +25,40 @@ use Rattle.tokenizer.specs.Moved.{moved}
 use Rattle.tokenizer.specs.Ranges.{jobInRange, isAnswer, verdictInRange}
 use Rattle.scan.specs.declared.Scan.{Scan}
 use Rattle.scan.specs.Scan.{stepBound, choice, lacks, carriedOut, stepScan, runScan}
-use Rattle.scan.specs.Call.{scanInRange, givenScan, freshScan}
+use Rattle.scan.specs.Call.{scanInRange, givenScan, freshIn, freshScan}
 use Rattle.scan.specs.Alone.{toldScan, runAlone}
 use Rattle.scan.proofs.Runs.{run-keeps}
 use Rattle.scan.proofs.Kept.{step-job, run-job}
+use Rattle.scan.specs.Inner.{Small}
+use Rattle.scan.proofs.Steps.{step-small}
+use Rattle.scan.proofs.Ranged.{lines-told}
 use Rattle.scan_theorems.specs.Statement.{Heard, made, madeAlone, FewSteps}
 use Rattle.scan_theorems.proofs.Left.{left, left-ended}
+use Rattle.scan_theorems.proofs.Parts.{parts}
 use Rattle.scan_theorems.proofs.Sound.{Sound}
 use Rattle.scan_theorems.proofs.Falls.{falls, sound-moved}
 use Rattle.scan_theorems.proofs.Ended.{sound-ended}
 use Rattle.scan_theorems.proofs.Given.{left-given, sound-given}
-use Rattle.scan_theorems.proofs.Fresh.{left-fresh, sound-fresh}
+use Rattle.scan_theorems.proofs.Fresh.{left-fresh, start-within, length-short, sound-fresh}
 
 -- a scan over its page: in range, and with steps enough for what is left to do
 pub record Within (page : List ℕ) (s : Scan) : Type 0 where
   pub sound : Sound page (s .tokenizer)
   pub room : s .used ≤ roomIn (s .tokenizer .job .words)
   pub paid : s .steps + left page (s .tokenizer) ≤ stepBound (s .tokenizer .job)
+  pub lines : Small (s .lines)
 
 -- it is in range, as the calls test it
 pub within-range : (page : List ℕ) (s : Scan) → Within page s → scanInRange s ≡ true
 unfolding scanInRange
 within-range page s w =
     and-yes _ _ (w .sound .range)
-    (and-yes _ _ (le-leb (s .used) (roomIn (s .tokenizer .job .words)) (w .room)) (le-leb (s .steps) (stepBound (s .tokenizer .job)) (omega (arith, w .paid))))
+    (and-yes _ _ (le-leb (s .used) (roomIn (s .tokenizer .job .words)) (w .room))
+    (and-yes _ _ (le-leb (s .steps) (stepBound (s .tokenizer .job)) (omega (arith, w .paid))) (lines-told (s .lines) (w .lines))))
+
+-- its page is no longer than a page can be
+page-short : (page : List ℕ) (t : Tokenizer) → Sound page t → length page ≤ pageLimit
+page-short page t s = omega (arith, s .size, length-short (t .job) (parts t (s .range) .job))
 
 -- ---- one step
 
@@ -87,6 +99,7 @@ module _ (page : List ℕ) (s : Scan) (w : Within page s) (r : rests (s .tokeniz
         sound = fine .0;
         room = fine .2;
         paid = omega (arith, fine .1, w .paid, step-counted);
+        lines = step-small page s (carriedOut s (choice page s)) (page-short page (s .tokenizer) (w .sound)) (w .lines);
       }
 
 -- ---- a run
@@ -120,17 +133,19 @@ within-given page s v w e h =
       sound = sound-given page (s .tokenizer) v (w .sound) h;
       room = w .room;
       paid = omega (arith, w .paid, left-given page (s .tokenizer) v e);
+      lines = w .lines;
     }
 
 -- ---- a new scan
 
-pub within-fresh : (page : List ℕ) (j : Job) → jobInRange j ≡ true → length page ≡ j .length → Within page (freshScan j)
-unfolding freshScan
+pub within-fresh : (page : List ℕ) (j : Job) → jobInRange j ≡ true → length page ≡ j .length → Within page (freshScan page j)
+unfolding freshIn
 within-fresh page j h l =
     record {
       sound = sound-fresh page j h l;
       room = omega arith;
       paid = omega (arith, left-fresh page j l);
+      lines = (omega (arith, line-within page (j .start), start-within j h, length-short j h), omega arith, omega arith);
     }
 
 -- ---- a whole scan, with the verdicts that it is given
@@ -175,10 +190,10 @@ pub alone-job : (page : List ℕ) (k : ℕ) (vs : List Verdict) (s : Scan) → H
 alone-job page k vs s h = alone-keeps page k (λ (x : Scan). x .tokenizer .job ≡ s .tokenizer .job) (λ x r e. step-job page x ∙ e) (λ x v g e. told-job x v ∙ e) vs s h refl
 
 pub at-most-eight-a-byte : FewSteps
-unfolding freshScan
+unfolding freshIn
 at-most-eight-a-byte page j k vs h l vr =
     let w = within-fresh page j h l in
-    let c = alone-counted page k vs (freshScan j) vr w in
-    let a = within-alone page k vs (freshScan j) vr w in
-    let b : stepBound (runAlone page k vs (freshScan j) .tokenizer .job) ≡ stepBound j = ap stepBound (alone-job page k vs (freshScan j) vr) in
+    let c = alone-counted page k vs (freshScan page j) vr w in
+    let a = within-alone page k vs (freshScan page j) vr w in
+    let b : stepBound (runAlone page k vs (freshScan page j) .tokenizer .job) ≡ stepBound j = ap stepBound (alone-job page k vs (freshScan page j) vr) in
     (omega (arith, c), omega (arith, c, a .paid, b))

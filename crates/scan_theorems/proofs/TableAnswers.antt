@@ -20,7 +20,7 @@ use Rattle.tokenizer.specs.Ranges.{tag, esm, isAnswer, runsIn, listed}
 use Rattle.scan.specs.declared.Scan.{Scan}
 use Rattle.scan.specs.Answer.{Said, endAnswers, pageAnswers, verdictAnswers, verdictRefusal, refusal, answerOf}
 use Rattle.scan.specs.Scan.{choice, lacks, stepScan}
-use Rattle.scan.specs.Call.{givenScan, freshScan}
+use Rattle.scan.specs.Call.{givenScan, freshIn, freshScan}
 use Rattle.scan.specs.Alone.{runAlone}
 use Rattle.scan_theorems.specs.Statement.{answersOfScans, whereOf, ByTheTable}
 use Rattle.scan_theorems.proofs.Tests.{clash}
@@ -113,10 +113,10 @@ unfolding givenScan if_then_else_
 given-placed page s v =
     placed-at page (givenScan s v) (case _ (eqb (s .tokenizer .job .construct) esm) (λ c. rw c) (λ c. rw c)) (case _ (eqb (s .tokenizer .job .construct) esm) (λ c. rw c) (λ c. rw c))
 
-fresh-placed : (page : List ℕ) (j : Job) → Placed page (freshScan j .tokenizer)
-unfolding freshScan if_then_else_
+fresh-placed : (page : List ℕ) (j : Job) → Placed page (freshScan page j .tokenizer)
+unfolding freshIn if_then_else_
 fresh-placed page j =
-    placed-at page (freshScan j)
+    placed-at page (freshScan page j)
     (case _ (eqb (j .construct) esm) (λ c. rw c) (λ c. case _ (eqb (j .construct) tag) (λ d. rw (c, d)) (λ d. rw (c, d))))
     (case _ (eqb (j .construct) esm) (λ c. rw c) (λ c. case _ (eqb (j .construct) tag) (λ d. rw (c, d)) (λ d. rw (c, d))))
 
@@ -124,6 +124,6 @@ pub a-scan-answers-by-the-table : ByTheTable
 a-scan-answers-by-the-table page j k vs h l vr =
     let s = alone-keeps page k (Standing page) (standing-step page)
     (λ s v g p. told-keeps (Standing page) s v (λ e. record { within = within-given page s v (p .within) e g; placed = given-placed page s v }) p)
-    vs (freshScan j) vr (record { within = within-fresh page j h l; placed = fresh-placed page j }) in
-    let r = runAlone page k vs (freshScan j) in
+    vs (freshScan page j) vr (record { within = within-fresh page j h l; placed = fresh-placed page j }) in
+    let r = runAlone page k vs (freshScan page j) in
     fine r (r .tokenizer .job .construct) (parts (r .tokenizer) (s .within .sound .range) .state) (s .placed .sited)

@@ -14,10 +14,9 @@ use Rattle.base.specs.State as state
 use Rattle.base.specs.Decide.{listOf}
 use Rattle.char_class.specs.Class.{isIdStart, isIdCont}
 use Rattle.mdx_jsx.specs.Jsx.{whitespaceOrEnd, tagGoesOn, nameFollowed}
-use Rattle.events.specs.Event.{eventsAt}
 use Rattle.events.specs.Words.{roomIn}
 use Rattle.scan.specs.declared.Scan.{Scan}
-use Rattle.scan.specs.Scan.{choice, stepScan}
+use Rattle.scan.specs.Scan.{choice, marksAt, stepScan}
 
 -- ---- row 5: "a tag state other than start and the two quoted-value states runs with a byte of 128 or more at its place"
 
@@ -78,7 +77,7 @@ noWayMet name b = tagState name && (not (notAsciiMet name b) && not (wayOn name 
 
 abbrev pub tooManyEvents : List ℕ → Scan → Bool
 tooManyEvents page s =
-    ltb (roomIn (s .tokenizer .job .words) - s .used) (length (eventsAt (s .tokenizer .at) (listOf (choice page s .marks))))
+    ltb (roomIn (s .tokenizer .job .words) - s .used) (length (marksAt (byteAt page (s .tokenizer .at)) s (listOf (choice page s .marks))))
 
 -- ---- of one step
 

@@ -49,7 +49,7 @@ madeAlone page k (v ∷ vs) s = made page k s + madeAlone page k vs (toldScan (r
 abbrev pub FewSteps : Type 0
 FewSteps =
     OfEveryScan λ page j k vs.
-    (runAlone page k vs (freshScan j) .steps ≡ madeAlone page k vs (freshScan j)) × (madeAlone page k vs (freshScan j) ≤ 8 * (j .length - j .start + 1))
+    (runAlone page k vs (freshScan page j) .steps ≡ madeAlone page k vs (freshScan page j)) × (madeAlone page k vs (freshScan page j) ≤ 8 * (j .length - j .start + 1))
 
 -- ---- depth: `no-depth-is-cut`
 
@@ -58,7 +58,7 @@ abbrev pub DepthCounted : Type 0
 DepthCounted =
     OfEveryScan λ page j k vs.
     eqb (j .construct) esm ≡ false
-    → let t = runAlone page k vs (freshScan j) .tokenizer in
+    → let t = runAlone page k vs (freshScan page j) .tokenizer in
     (t .regs .depth ≤ t .at) × (t .at < j .length → oneMore (t .regs .depth) mostBraces ≡ t .regs .depth + 1)
 
 -- ---- answers: `a-scan-answers-by-the-table`
@@ -78,15 +78,15 @@ answersOfScans =
     ∷ number.paused
     ∷ []
 
--- the where-number that 6 and 7 carry
+-- the where-number that 6 and 7 carry, behind the place, its line and its column
 abbrev pub whereOf : Said → ℕ
-whereOf a = getD (a .values) 1 0
+whereOf a = getD (a .values) 3 0
 
 -- nothing else is answered, and never with where-number 0: what the Rust calls unreachable is unreachable
 abbrev pub ByTheTable : Type 0
 ByTheTable =
     OfEveryScan λ page j k vs.
-    let a = answerOf (runAlone page k vs (freshScan j)) in
+    let a = answerOf (runAlone page k vs (freshScan page j)) in
     (among answersOfScans (a .number) ≡ true) × (among (state.eof ∷ state.unexpected ∷ []) (a .number) ≡ true → 1 ≤ whereOf a)
 
 -- ---- rows 5, 6, 7 and 10: `exact-rows`

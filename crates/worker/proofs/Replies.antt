@@ -33,20 +33,20 @@ replySaid a = find (a .number) (table (λ k. getD (a .values) k 0)) (Answered (a
 
 answered : (a : Answer) → replySaid (single.saidBy a) ≡ Answered (answerSaid (single.saidBy a))
 unfolding replySaid find if_then_else_
-answered (Done end events steps) = refl
-answered (Nok events steps) = refl
+answered (Done end t) = refl
+answered (Nok t) = refl
 answered TooLong = refl
 answered BadStart = refl
-answered (BadText offset) = refl
-answered (NotAscii place events steps) = refl
-answered (Eof place site events steps) = refl
-answered (Unexpected place site note events steps) = refl
-answered (VerdictError place number events steps) = refl
-answered (VerdictEof place number events steps) = refl
-answered (Full place events steps) = refl
+answered (BadText p) = refl
+answered (NotAscii p t) = refl
+answered (Eof p site t) = refl
+answered (Unexpected p site note t) = refl
+answered (VerdictError p number t) = refl
+answered (VerdictEof p number t) = refl
+answered (Full p t) = refl
 answered BadCall = refl
-answered (Asking place events steps) = refl
-answered (Paused place events steps) = refl
+answered (Asking p t) = refl
+answered (Paused p t) = refl
 answered Kept = refl
 
 pub read-back : (r : Reply) → replySaid (saidBy r) ≡ r

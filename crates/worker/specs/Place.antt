@@ -10,8 +10,10 @@ use lib.ListN.{length, getD, set}
 use Rattle.base.specs.State.{asking, firstRunning}
 use Rattle.base.specs.declared.Verdict.the-variants.{Fine}
 use Rattle.events.specs.Share.{shareOf}
+use Rattle.page.specs.declared.line.Line.{Line}
 use Rattle.tokenizer.specs.Registers.{noRegs}
 use Rattle.scan.specs.declared.Scan.{Scan}
+use Rattle.scan.specs.Lines.{linesOf}
 use Rattle.scan.specs.Call.{scanInRange, noScan}
 use Rattle.worker.specs.declared.Place.{Place}
 use Rattle.worker.specs.declared.Worker.{Worker}
@@ -48,11 +50,15 @@ placeInRange n p = eqb (p .scan .tokenizer .job .words) n && scanInRange (p .sca
 -- ---- the places of a worker
 
 -- what is read past the last place: every number 0, and not taken
+abbrev noLine : Line
+noLine = record { number = 0; first = 0 }
+
 abbrev pub beyond : Place
 beyond =
     placeOf false 0
     (record {
       tokenizer = record { job = noScan .tokenizer .job; state = 0; at = 0; regs = noRegs; heard = Fine };
+      lines = linesOf noLine noLine noLine;
       used = 0;
       steps = 0;
     })

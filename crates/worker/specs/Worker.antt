@@ -1,7 +1,7 @@
 -- The worker's calls: what each leaves of the worker, what it answers, and what it writes.
 --
 -- docs/SCOPE.md, 'The worker': "Sixteen places, lowest free place first, a turn size q of 1 to 4096 fixed at the start (else 12). The event
--- buffer is cut in sixteen equal shares, a place holding its length in words divided by 32, rounded down, events. A turn goes to the next
+-- buffer is cut in sixteen equal shares" (docs/SCOPE.md, 'Line and column', says how many events a share holds). "A turn goes to the next
 -- running place after the one last served, round the ring; a fresh worker begins at 0. It runs q steps, or fewer if the page asks or
 -- finishes. A verdict call only keeps the verdict; applying it is the first step of that place's next turn. No running place: the answer
 -- is Idle, nothing changes. A finished page keeps its place until collected, which gives its answer; a freed place is used again."

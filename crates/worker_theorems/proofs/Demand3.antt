@@ -19,7 +19,7 @@ use Rattle.events.specs.Share.{shareOf, shareIn}
 use Rattle.tokenizer.specs.declared.Job.{Job}
 use Rattle.scan.specs.Scan.{stepBound}
 use Rattle.scan.specs.Answer.{Said, said, answerOf}
-use Rattle.scan.specs.Call.{jobOf, freshScan}
+use Rattle.scan.specs.Call.{jobOf, freshIn, freshScan}
 use Rattle.scan.proofs.Begun.{begins}
 use Rattle.scan_theorems.proofs.Calls.{job-in-range}
 use Rattle.scan_theorems.proofs.Scans.{Within, within-fresh}
@@ -38,9 +38,9 @@ use Rattle.worker_theorems.proofs.Ring.{gap-small}
 use Rattle.worker_theorems.proofs.Single.{reached-first, reached-rest}
 use Rattle.worker_theorems.proofs.Views.{view-admit}
 
-fresh-parts : (j : Job) → (freshScan j .tokenizer .job ≡ j) × (freshScan j .used ≡ 0)
-unfolding freshScan
-fresh-parts j = (refl, refl)
+fresh-parts : (page : List ℕ) (j : Job) → (freshScan page j .tokenizer .job ≡ j) × (freshScan page j .used ≡ 0)
+unfolding freshIn
+fresh-parts page j = (refl, refl)
 
 -- ---- the admission
 
@@ -69,11 +69,11 @@ module _ (len q : ℕ) (bytes : List ℕ) (p : Page) (i : ℕ) (s : State) (g : 
       let x : k ≡ i = same-place k e in
       let f = begins bytes (p .at) (p .long) (p .start) (p .construct) (p .kind) (p .flags) (shareOf (s .worker .words)) n b in
       let j : Job = jobOf (p .construct) (p .kind) (p .flags) (p .long) (p .start) (shareOf len) in
-      let en : n ≡ freshScan j = f .fresh ∙ ap (λ (w : ℕ). freshScan (jobOf (p .construct) (p .kind) (p .flags) (p .long) (p .start) (shareOf w))) (g .ranged .lent) in
+      let en : n ≡ freshScan (textOf bytes p) j = f .fresh ∙ ap (λ (w : ℕ). freshScan (textOf bytes p) (jobOf (p .construct) (p .kind) (p .flags) (p .long) (p .start) (shareOf w))) (g .ranged .lent) in
       let l : length (textOf bytes p) ≡ p .long = length-take-le (p .long) (drop (p .at) bytes) (omega (arith, length-drop (p .at) bytes, f .admitted .lies)) in
-      let w : Within (textOf bytes p) (freshScan j) = within-fresh (textOf bytes p) j (job-in-range bytes (p .at) (p .long) (p .start) (p .construct) (p .kind) (p .flags) (shareOf len) (f .listed) (f .admitted)) l in
-      let z = fresh-parts j in
-      let o : placeIn (set (s .worker .places) k (placeOf true (p .at) n)) i ≡ placeOf true (p .at) (freshScan j) =
+      let w : Within (textOf bytes p) (freshScan (textOf bytes p) j) = within-fresh (textOf bytes p) j (job-in-range bytes (p .at) (p .long) (p .start) (p .construct) (p .kind) (p .flags) (shareOf len) (f .listed) (f .admitted)) l in
+      let z = fresh-parts (textOf bytes p) j in
+      let o : placeIn (set (s .worker .places) k (placeOf true (p .at) n)) i ≡ placeOf true (p .at) (freshScan (textOf bytes p) j) =
       ap (λ (m : ℕ). placeIn (set (s .worker .places) m (placeOf true (p .at) n)) i) x ∙ getD-set-same (s .worker .places) i (placeOf true (p .at) n) beyond (omega (arith, g .ranged .size)) ∙ ap (placeOf true (p .at)) en in
       subst (λ (y : Place). At len q (textOf bytes p) p i hi [] 0 (s .worker .last) y (shareIn (shareOf (s .worker .words)) i (s .words))) (sym o)
       (record {
@@ -82,7 +82,7 @@ module _ (len q : ℕ) (bytes : List ℕ) (p : Page) (i : ℕ) (s : State) (g : 
         taken = refl;
         same = z .0;
         within = w;
-        reached = reached-first (textOf bytes p) (bound p) (freshScan j) w (ap stepBound (z .0));
+        reached = reached-first (textOf bytes p) (bound p) (freshScan (textOf bytes p) j) w (ap stepBound (z .0));
         stand = record { count = z .1; hold = rw (z .1) };
         goes = λ r. (omega (arith, mul-zero q), omega (arith, gap-small (after (s .worker .last)) i));
         waits = λ r. (omega (arith, mul-zero q), omega arith);

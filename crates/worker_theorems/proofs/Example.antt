@@ -22,11 +22,13 @@ use Rattle.tokenizer.specs.Moved.{moved}
 use Rattle.tokenizer.specs.Ranges.{expression, tag, constructListed, kindListed, jobInRange, runsIn, isAnswer, listed, isReturn, numbersInRange, placesInRange, regsInRange, verdictInRange, inRange}
 use Rattle.scan.specs.Answer.{said, answerOf}
 use Rattle.scan.specs.Scan.{choice, stepScan, stepEvents, runScan, runEvents}
-use Rattle.scan.specs.Call.{scanInRange, runnable, runOf, givable, givenScan, giveOf, freshScan, beginOf}
+use Rattle.scan.specs.Call.{scanInRange, runnable, runOf, givable, givenScan, giveOf, freshIn, beginOf}
 use Rattle.scan_theorems.proofs.EveryState.{all, all-hold}
 use Rattle.worker.specs.Place.{stateOf, placeInRange, workerInRange, holds}
 use Rattle.worker.specs.Ring.{places, seek}
 use Rattle.worker.specs.Worker.{startOf, admitOf, verdictOf, collectCall, pageIn, liesIn, servedAt, turnAt, turnOf}
+use Rattle.page.specs.Line.{lineOf, firstOf}
+use Rattle.scan.specs.Lines.{linesInRange}
 use Rattle.worker_theorems.specs.Calls.{Page, Ask, admit, verdict, aTurn, collect, State, next, answer, afterCalls, placeAt}
 use Rattle.worker_theorems.specs.Demand3.{begun, textOf, unfinished, Lent, Fair}
 
@@ -43,7 +45,7 @@ second = record { at = 3; long = 3; start = 0; construct = tag; kind = 0; flags 
 
 -- two steps to a turn, room for ten events at each place
 abbrev buffer : List ℕ
-buffer = replicate 320 0
+buffer = replicate 640 0
 
 abbrev s₁ : State
 s₁ = next (admit bytes first) (begun 2 buffer)
@@ -155,7 +157,10 @@ unfolding
     within
     among
     answerOf
-    freshScan
+    freshIn
+    lineOf
+    firstOf
+    linesInRange
     if_then_else_
 the-first-page = (refl, refl, refl)
 
@@ -232,7 +237,10 @@ unfolding
     within
     among
     answerOf
-    freshScan
+    freshIn
+    lineOf
+    firstOf
+    linesInRange
     if_then_else_
 fair =
     let page = textOf bytes first in (λ e. lent-by page bytes s₁ refl refl, tt, (tt, tt, (λ e. absurd (omega (arith, e)), tt, (λ e. lent-by page bytes s₃ refl refl, tt, (λ e. lent-by page bytes s₄ refl refl, tt, (λ e. lent-by page bytes s₅ refl refl, tt, (λ e. lent-by page bytes s₆ refl refl, tt, (tt, tt, (λ e. lent-by page grown s₈ refl refl, tt, (λ e. lent-by page grown s₉ refl refl, tt, tt))))))))))

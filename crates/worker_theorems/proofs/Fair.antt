@@ -113,7 +113,7 @@ module _ (len q : ℕ) (page : List ℕ) (pg : Page) (i : ℕ) (hi : i < 16) whe
     pub taken : p .taken ≡ true
     pub same : p .scan .tokenizer .job ≡ job
     pub within : Within page (p .scan)
-    pub reached : Reached page (bound pg) (freshScan job) vs (p .scan) es
+    pub reached : Reached page (bound pg) (freshScan page job) vs (p .scan) es
     pub stand : Stand (p .scan .used) words es
     pub goes : rests (stateOf p) ≡ false → (q * n ≤ p .scan .steps + q * length vs) × (m + gap (after l) i ≤ 16 * n + 15)
     pub waits : stateOf p ≡ asking → (q * n ≤ p .scan .steps + q * length vs + q) × (m ≤ 16 * n)
@@ -152,7 +152,7 @@ module _ (len q : ℕ) (page : List ℕ) (pg : Page) (i : ℕ) (hi : i < 16) whe
         taken = refl;
         same = s .2 ∙ h .same;
         within = within-given page (p .scan) v (h .within) (a .0) (a .1);
-        reached = reached-given page (bound pg) (freshScan job) vs (p .scan) (h .es) v (h .within) (bound-is vs m l p words h) (a .0) (a .1) (h .reached);
+        reached = reached-given page (bound pg) (freshScan page job) vs (p .scan) (h .es) v (h .within) (bound-is vs m l p words h) (a .0) (a .1) (h .reached);
         stand = subst (λ (k : ℕ). Stand k words (h .es)) (sym (s .1)) (h .stand);
         goes = λ r.
             (omega (arith, c .0, s .0, mul-suc q (length vs), ap (λ (k : ℕ). q * k) (snoc-long vs v)), omega (arith, c .1, gap-small (after l) i));
@@ -175,7 +175,7 @@ module _ (len q : ℕ) (page : List ℕ) (pg : Page) (i : ℕ) (hi : i < 16) whe
         taken = refl;
         same = job-kept page q (p .scan) ∙ h .same;
         within = w;
-        reached = reached-run page (bound pg) (freshScan job) vs (p .scan) (h .es) (h .within) q (h .reached);
+        reached = reached-run page (bound pg) (freshScan page job) vs (p .scan) (h .es) (h .within) q (h .reached);
         stand = subst (λ (k : ℕ). Stand k (runWords page q (p .scan) words) (h .es ++ runEvents page q (p .scan))) (sym u)
             (stand-more (p .scan .used) words (h .es) (runEvents page q (p .scan)) (omega (arith, w .room, u, j, long)) (h .stand));
         goes = λ e. (omega (arith, a .0, c .all e, mul-add q (h .n) 1, mul-one q), omega (arith, a .1, gap-small (after i) i));

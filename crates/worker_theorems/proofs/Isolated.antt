@@ -25,10 +25,10 @@ promise h i s = no-page-holds-up-another (h .q) (h .events) (h .before) (h .sinc
 
 -- the same page, verdicts and room
 module _ {t t′ : List ℕ} {n n′ s s′ c c′ k k′ f f′ r r′ : ℕ} {vs vs′ : List Verdict} (et : t ≡ t′) (en : n ≡ n′) (es : s ≡ s′) (ec : c ≡ c′) (ek : k ≡ k′) (ef : f ≡ f′) (ev : vs ≡ vs′) (er : r ≡ r′) where
-  same-scan : runAlone t (8 * (n - s + 1)) vs (freshScan (jobOf c k f n s r)) ≡ runAlone t′ (8 * (n′ - s′ + 1)) vs′ (freshScan (jobOf c′ k′ f′ n′ s′ r′))
+  same-scan : runAlone t (8 * (n - s + 1)) vs (freshScan t (jobOf c k f n s r)) ≡ runAlone t′ (8 * (n′ - s′ + 1)) vs′ (freshScan t′ (jobOf c′ k′ f′ n′ s′ r′))
   same-scan = rw (et, en, es, ec, ek, ef, ev, er)
 
-  same-list : eventsAlone t (8 * (n - s + 1)) vs (freshScan (jobOf c k f n s r)) ≡ eventsAlone t′ (8 * (n′ - s′ + 1)) vs′ (freshScan (jobOf c′ k′ f′ n′ s′ r′))
+  same-list : eventsAlone t (8 * (n - s + 1)) vs (freshScan t (jobOf c k f n s r)) ≡ eventsAlone t′ (8 * (n′ - s′ + 1)) vs′ (freshScan t′ (jobOf c′ k′ f′ n′ s′ r′))
   same-list = rw (et, en, es, ec, ek, ef, ev, er)
 
 pub pages-are-isolated : Isolation

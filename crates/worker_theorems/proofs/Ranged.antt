@@ -15,7 +15,7 @@ use Rattle.base.proofs.Choice.{if-is, case, and-yes, both, or-yes, or-yes′, o
 use Rattle.base.specs.declared.Verdict.{Verdict}
 use Rattle.events.specs.Share.{shareOf}
 use Rattle.scan.specs.declared.Scan.{Scan}
-use Rattle.scan.specs.Call.{scanInRange, runnable, runOf, givable, givenScan, giveOf, freshScan}
+use Rattle.scan.specs.Call.{scanInRange, runnable, runOf, givable, givenScan, giveOf, freshIn}
 use Rattle.scan.proofs.Begun.{begins}
 use Rattle.scan_theorems.proofs.Calls.{run-gives-in-range, give-gives-in-range, new-gives-in-range}
 use Rattle.scan_theorems.proofs.Scans.{job-kept}
@@ -117,7 +117,7 @@ module _ (len q : ℕ) (w : Worker) (r : Ranged len q w) where
   -- ---- the calls
 
   after-admit : (bytes : List ℕ) (p : Page) → Ranged len q (callOf (admit bytes p) w .worker)
-  unfolding freshScan
+  unfolding freshIn
   after-admit bytes p =
       view-admit (λ (l : Left). Ranged len q (l .worker)) w bytes p (λ a e. r)
       (λ k s hk t e.

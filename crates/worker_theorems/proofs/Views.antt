@@ -18,7 +18,7 @@ use Rattle.page.specs.declared.Checked.{Checked}
 use Rattle.page.specs.declared.Checked.the-variants as checked
 use Rattle.scan.specs.declared.Scan.{Scan}
 use Rattle.scan.specs.Answer.{Said, said, refused, answerOf}
-use Rattle.scan.specs.Call.{Begun, started, notStarted, begunIf, numbersListed, jobOf, freshScan, beginOf, givable, givenScan, giveOf}
+use Rattle.scan.specs.Call.{Begun, started, notStarted, begunIf, numbersListed, jobOf, beginOf, givable, givenScan, giveOf}
 use Rattle.worker.specs.declared.Place.{Place}
 use Rattle.worker.specs.declared.Worker.{Worker}
 use Rattle.worker.specs.Place.{placeOf, freePlace, beyond, placeIn, running, ended, nextIn, lowestIn, stored, workerInRange, holds}
@@ -41,11 +41,11 @@ not-begun bytes at n start construct kind flags words a e =
     told : (x : Said) → notStarted x ≡ notStarted a → refuses x ≡ true → refuses a ≡ true
     told x f g = let h : x ≡ a = cc in rw h at g
 
-    by : (x : Checked) → begunIf x (freshScan (jobOf construct kind flags n start words)) ≡ notStarted a → refuses a ≡ true
-    by checked.Good f = let z : _≡_ {A = ℕ} 0 1 = cc in absurd (omega (arith, z))
+    by : (x : Checked) → begunIf x (jobOf construct kind flags n start words) ≡ notStarted a → refuses a ≡ true
+    by (checked.Good line) f = let z : _≡_ {A = ℕ} 0 1 = cc in absurd (omega (arith, z))
     by checked.TooLong f = told _ f refl
     by checked.BadStart f = told _ f refl
-    by (checked.BadText o) f = told _ f refl
+    by (checked.BadText p) f = told _ f refl
 
 -- a place stored as it was
 stored-same : (i : ℕ) (w : Worker) → placeIn (w .places) i .taken ≡ true → stored w i (placeOf true (placeIn (w .places) i .at) (placeIn (w .places) i .scan)) (w .last) ≡ w

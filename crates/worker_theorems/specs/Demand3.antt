@@ -98,14 +98,14 @@ bound p = 8 * (p .long - p .start + 1)
 abbrev pub textOf : List ℕ → Page → List ℕ
 textOf bytes p = pageOf bytes (p .at) (p .long)
 
-abbrev pub firstScan : Page → ℕ → Scan
-firstScan p words = freshScan (jobOf (p .construct) (p .kind) (p .flags) (p .long) (p .start) words)
+abbrev pub firstScan : List ℕ → Page → ℕ → Scan
+firstScan bytes p words = freshScan (textOf bytes p) (jobOf (p .construct) (p .kind) (p .flags) (p .long) (p .start) words)
 
 abbrev pub scanAlone : List ℕ → Page → List Verdict → ℕ → Scan
-scanAlone bytes p vs words = runAlone (textOf bytes p) (bound p) vs (firstScan p words)
+scanAlone bytes p vs words = runAlone (textOf bytes p) (bound p) vs (firstScan bytes p words)
 
 abbrev pub listAlone : List ℕ → Page → List Verdict → ℕ → List Event
-listAlone bytes p vs words = eventsAlone (textOf bytes p) (bound p) vs (firstScan p words)
+listAlone bytes p vs words = eventsAlone (textOf bytes p) (bound p) vs (firstScan bytes p words)
 
 -- ---- the promise
 

@@ -57,7 +57,7 @@ fn opens_line_with_tab(page: &[u8], events: &[Mark]) -> bool {
         {
             in_expression = !event.exit;
         } else if in_expression && event.exit && event.is(&Name::LineEnding) {
-            let line = &page[event.offset..];
+            let line = &page[event.place.offset..];
             let opening = line
                 .iter()
                 .take_while(|byte| matches!(byte, b'\t' | 0x0B | 0x0C | b' '));
@@ -94,7 +94,7 @@ fn meets_non_ascii(judge: &Judge, scan: &Scan) -> bool {
     });
 
     match outcome.answer {
-        Answer::Unexpected { place, .. } if is_other(place) => true,
+        Answer::Unexpected { place, .. } if is_other(place.offset) => true,
         // The second run can be outside where the first was Nok, whose events
         // show nothing; no need to find out more.
         Answer::Outside { .. } => true,
@@ -109,7 +109,7 @@ fn meets_non_ascii(judge: &Judge, scan: &Scan) -> bool {
         _ => outcome.events.windows(2).any(|pair| {
             (pair[0].is(&Name::LineEnding) || pair[0].is(&Name::MdxJsxEsWhitespace))
                 && pair[1].is(&Name::MdxJsxTagAttributeValueLiteralValue)
-                && is_other(pair[1].offset)
+                && is_other(pair[1].place.offset)
         }),
     }
 }

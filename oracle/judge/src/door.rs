@@ -6,6 +6,7 @@ use crate::domain;
 use crate::event::{Kind as EventKind, Name, Point};
 use crate::message::Message;
 use crate::parser::ParseState;
+use crate::place::Place;
 use crate::reading;
 use crate::state::{Name as StateName, State};
 use crate::tokenizer::Tokenizer;
@@ -59,25 +60,25 @@ pub enum Answer {
     },
     Nok,
     Eof {
-        place: usize,
+        place: Place,
         at: u32,
     },
     Unexpected {
-        place: usize,
+        place: Place,
         at: u32,
         note: u32,
     },
     VerdictError {
-        place: usize,
+        place: Place,
         number: u32,
     },
     VerdictEof {
-        place: usize,
+        place: Place,
         number: u32,
     },
     /// The list of verdicts is used up.
     Asking {
-        place: usize,
+        place: Place,
         body: String,
     },
     /// The run leaves the domain in which the crate decides.
@@ -86,13 +87,28 @@ pub enum Answer {
     },
 }
 
+impl Answer {
+    /// The place that it carries. The end of a construct that is done is an
+    /// offset without line and column, and so no place.
+    pub fn place_mut(&mut self) -> Option<&mut Place> {
+        match self {
+            Answer::Eof { place, .. }
+            | Answer::Unexpected { place, .. }
+            | Answer::VerdictError { place, .. }
+            | Answer::VerdictEof { place, .. }
+            | Answer::Asking { place, .. } => Some(place),
+            Answer::Done { .. } | Answer::Nok | Answer::Outside { .. } => None,
+        }
+    }
+}
+
 /// An event.
 #[derive(Clone, Debug, Eq, PartialEq)]
 pub struct Mark {
     pub exit: bool,
     /// Number of the name in `Name::ALL`.
     name: usize,
-    pub offset: usize,
+    pub place: Place,
 }
 
 impl Mark {
@@ -271,14 +287,14 @@ fn outcome(tokenizer: &Tokenizer, message: &Message, source: Source) -> Outcome 
         return Outcome::outside("an event lies inside a tab");
     }
     Outcome {
-        answer: reading::answer(message, tokenizer.point.index, source.bodies.last()),
+        answer: reading::answer(message, (&tokenizer.point).into(), source.bodies.last()),
         events: tokenizer
             .events
             .iter()
             .map(|event| Mark {
                 exit: event.kind == EventKind::Exit,
                 name: event.name.clone() as usize,
-                offset: event.point.index,
+                place: (&event.point).into(),
             })
             .collect(),
         bodies: source.bodies,

@@ -10,11 +10,13 @@ include!(concat!(env!("OUT_DIR"), "/crate/modules.rs"));
 mod calls;
 mod domain;
 mod door;
+mod place;
 mod reading;
 
 #[cfg(feature = "log")]
 pub use calls::{Call, STATES};
 pub use door::{Answer, Construct, Judge, Kind, Mark, Outcome, Scan, Verdict};
+pub use place::Place;
 
 /// The wrong reading that this judge was built with, if it was.
 pub const VARIANT: Option<&str> = option_env!("JUDGE_VARIANT");

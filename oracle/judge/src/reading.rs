@@ -1,7 +1,8 @@
 //! From the message that stopped a run to document 01's answer.
 
 use crate::door::Answer;
-use crate::message::{Message, Place};
+use crate::message::{self, Message};
+use crate::place::Place;
 
 /// Source of messages that aren't the crate's.
 pub const OURS: &str = "oracle";
@@ -49,17 +50,19 @@ const NOTES: [(&str, u32); 4] = [
 
 /// Read a message.
 ///
-/// `index` is where the tokenizer stopped, `body` the last one asked about.
-pub fn answer(message: &Message, index: usize, body: Option<&String>) -> Answer {
+/// `stopped` is where the tokenizer did, `body` the last one asked about.
+pub fn answer(message: &Message, stopped: Place, body: Option<&String>) -> Answer {
     if *message.source != OURS {
         return crate_answer(message);
     }
     let number = || message.reason.parse().expect("a verdict's number");
     match message.rule_id.as_str() {
-        DONE => Answer::Done { end: index },
+        DONE => Answer::Done {
+            end: stopped.offset,
+        },
         NOK => Answer::Nok,
         ASKING => Answer::Asking {
-            place: index,
+            place: stopped,
             body: body.expect("a body").clone(),
         },
         VERDICT_ERROR => Answer::VerdictError {
@@ -121,10 +124,10 @@ fn parts(reason: &str) -> Option<(bool, &str, &str)> {
     Some((at_end, words, expected))
 }
 
-/// The byte offset that a message is about.
-fn place(message: &Message) -> usize {
+/// The place that a message is about.
+fn place(message: &Message) -> Place {
     match message.place.as_deref() {
-        Some(Place::Point(point)) => point.offset,
+        Some(message::Place::Point(point)) => point.into(),
         other => panic!("expected a point in a message, not {other:?}"),
     }
 }

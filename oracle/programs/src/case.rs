@@ -134,7 +134,8 @@ impl Case {
     }
 }
 
-/// Write `ANSWER | events +NAME@OFFSET -NAME@OFFSET ..`.
+/// Write `ANSWER | events +NAME@PLACE -NAME@PLACE ..`, where a place is
+/// `OFFSET:LINE:COLUMN`, in the answer too.
 pub fn push_outcome(line: &mut String, judge: &Judge, outcome: &Outcome) {
     match &outcome.answer {
         Answer::Done { end } => write!(line, "Done {end}"),
@@ -155,7 +156,7 @@ pub fn push_outcome(line: &mut String, judge: &Judge, outcome: &Outcome) {
     for event in &outcome.events {
         line.push_str(if event.exit { " -" } else { " +" });
         line.push_str(judge.label(event));
-        write!(line, "@{}", event.offset).expect("write to a string");
+        write!(line, "@{}", event.place).expect("write to a string");
     }
 }
 
@@ -200,7 +201,7 @@ fn verdict(text: &str) -> Option<Verdict> {
 }
 
 /// Bytes from hexadecimal digits; `-` is no bytes.
-fn from_hex(text: &str) -> Option<Vec<u8>> {
+pub fn from_hex(text: &str) -> Option<Vec<u8>> {
     if text == "-" {
         return Some(vec![]);
     }

@@ -2,7 +2,9 @@
 //! settings. A sample is chosen by this.
 
 use crate::case::Case;
-use judge::{Answer, Call, Construct, Judge, Outcome, Verdict, STATES};
+use crate::columns::line_before;
+use judge::{Answer, Call, Construct, Judge, Outcome, Place, Verdict, STATES};
+use std::collections::BTreeSet;
 
 /// Everything that a case reaches, in words.
 #[derive(Debug, Default)]
@@ -83,7 +85,53 @@ fn other_words(case: &Case, judge: &Judge, outcome: &Outcome) -> Vec<String> {
             ));
         }
     }
+    others.extend(place_words(case, judge, outcome));
+    others.extend(past_words(case, outcome));
     others
+}
+
+/// Where the last event stands past the end of what was scanned, as that of ESM
+/// does where a look-ahead went before: its line, and what that line begins with.
+fn past_words(case: &Case, outcome: &Outcome) -> Option<String> {
+    let Answer::Done { end } = outcome.answer else {
+        return None;
+    };
+    let place = outcome.events.last()?.place;
+    (place.offset > end).then(|| {
+        let (line, start) = (place.line.min(6), start_words(case));
+        let byte = byte_words(case.page.get(place.offset).copied());
+        let verdicts = verdict_words(&case.verdicts);
+        format!("past the end on line {line} at {byte}, start {start}, verdicts {verdicts}")
+    })
+}
+
+/// Where the answer and each event stand, so that all of them are met on
+/// several lines and in every sort of column.
+fn place_words(case: &Case, judge: &Judge, outcome: &Outcome) -> BTreeSet<String> {
+    let stand = |what: &str, place: &Place| format!("{what} on {}", stand_words(&case.page, place));
+    let mut answer = outcome.answer.clone();
+    let what = answer_words(&answer);
+    let told = answer.place_mut().map(|place| stand(&what, place));
+    let events = outcome.events.iter().map(|event| {
+        let sign = if event.exit { '-' } else { '+' };
+        stand(&format!("{sign}{}", judge.label(event)), &event.place)
+    });
+    events.chain(told).collect()
+}
+
+/// The line of a place, up to the third, and what its column counts.
+fn stand_words(page: &[u8], place: &Place) -> String {
+    let before = line_before(page, place.offset);
+    let column = if before.is_empty() {
+        "first"
+    } else if before.contains(&b'\t') {
+        "behind a tab"
+    } else if !before.is_ascii() {
+        "behind longer characters"
+    } else {
+        "later"
+    };
+    format!("line {}, column {column}", place.line.min(3))
 }
 
 fn mode_word(case: &Case) -> char {

@@ -18,6 +18,12 @@ put-one-spec =
     (λ c. search needs)
     (λ c. simp length-set (omega arith))
     (λ c. search needs)
+    (λ c. search needs)
+    (λ c. simp length-set (omega arith))
+    (λ c. search needs)
+    (λ c. search needs)
+    (λ c. simp length-set (omega arith))
+    (λ c. search needs)
     (λ c.
     let a = c .before .before .before .args in
-    rw (c .before .kind-word .ensures, c .offset-word .ensures) (one-written (a .words .now) (a .k) (a .at) (a .mark))))
+    rw (c .before .kind-word .ensures, c .point-of .ensures) (one-written (a .words .now) (a .k) (a .here) (a .past) (a .mark))))

@@ -16,9 +16,9 @@ put-three-spec =
     (λ c. search needs)
     (λ c κs.
     let a = c .before .before .before .before .before .before .args in
-    let l = ap length (c .before .before .before .put-one .ensures) ∙ written-long (a .words .now) (a .k) (eventsAt (a .at) (a .a ∷ [])) in
+    let l = ap length (c .before .before .before .put-one .ensures) ∙ written-long (a .words .now) (a .k) (eventsAt (a .here) (a .past) (a .a ∷ [])) in
     omega arith)
     (λ c. search needs)
     (λ c.
     let a = c .before .before .before .before .before .before .before .before .before .args in
-    c .before .before .put-two .ensures ∙ rw (c .before .before .before .before .before .before .put-one .ensures) (written-append (a .words .now) (a .k) (eventsAt (a .at) (a .a ∷ [])) (eventsAt (a .at) (a .b ∷ a .c ∷ [])))))
+    c .before .before .put-two .ensures ∙ rw (c .before .before .before .before .before .before .put-one .ensures) (written-append (a .words .now) (a .k) (eventsAt (a .here) (a .past) (a .a ∷ [])) (eventsAt (a .here) (a .past) (a .b ∷ a .c ∷ [])))))

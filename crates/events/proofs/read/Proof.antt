@@ -12,9 +12,13 @@ read-spec =
     (λ c.
     let a = c .before .before .args in
     let h = c .if1 .taken in
-    rw (List·getD-eq-default (a .words .now) 0 {n = a .k * 2} (omega arith), List·getD-eq-default (a .words .now) 0 {n = a .k * 2 + 1} (omega arith)))
+    rw (List·getD-eq-default (a .words .now) 0 {n = a .k * 4} (omega arith), List·getD-eq-default (a .words .now) 0 {n = a .k * 4 + 1} (omega arith), List·getD-eq-default (a .words .now) 0 {n = a .k * 4 + 2} (omega arith), List·getD-eq-default (a .words .now) 0 {n = a .k * 4 + 3} (omega arith)))
     (λ c. search needs)
     (λ c κs. search needs)
     (λ c. search needs)
     (λ c κs. search needs)
-    (λ c. rw (c .before .word-at .ensures, c .word-at2 .ensures)))
+    (λ c. search needs)
+    (λ c κs. search needs)
+    (λ c. search needs)
+    (λ c κs. search needs)
+    (λ c. rw (c .before .before .before .word-at .ensures, c .before .before .word-at2 .ensures, c .before .word-at3 .ensures, c .word-at4 .ensures)))

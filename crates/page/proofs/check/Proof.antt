@@ -4,10 +4,11 @@ use native.Mathlib.Omega.{arith}
 use mathlib.Core.Path.{_≡_, sym, _∙_, ap}
 use borrow.Author.Needs.{needs}
 use borrow.Author.Tests.{leb-true}
+use mathlib.Core.List.{List}
 use lib.ListN.{length, take, drop}
 use Rattle.base.proofs.Choice.{picks}
 use Rattle.page.specs.Text.{readText}
-use Rattle.page.specs.Page.{pageOf}
+use Rattle.page.specs.Page.{checkedBy}
 use Rattle.page.proofs.check.Statement.{statement}
 use Rattle.page.proofs.check.Tie as tie
 
@@ -44,8 +45,9 @@ returns-3 : tie.Need-returns-3
 returns-3 c =
     let a = c .before .before .before .before .before .before .before .args in
     let whole : a .at + a .length - a .at ≡ a .length = omega arith in
-    let read : c .text .result ≡ readText (pageOf (a .bytes .now) (a .at) (a .length)) =
-    c .text .ensures ∙ ap (λ (n : ℕ). readText (take n (drop (a .at) (a .bytes .now)))) whole
+    let part : ℕ → List ℕ = λ n. take n (drop (a .at) (a .bytes .now)) in
+    let read : c .text .result ≡ checkedBy (part (a .length)) (a .start) (readText (part (a .length))) =
+    c .text .ensures ∙ ap (λ (n : ℕ). checkedBy (part n) (a .start) (readText (part n))) whole
     in
     search picks depth 12
 

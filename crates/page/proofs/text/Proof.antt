@@ -1,91 +1,101 @@
--- The invariant: the reading of the whole page is the reading from the present place on.
-use Prim.Native.Nat.{_-_, _≤_, _<_}
+-- The invariant: what the pass has found out up to the present place.
+use Prim.Native.Nat.{_-_}
 use native.Mathlib.Omega.{arith}
-use mathlib.Core.Path.{_≡_, refl, sym, _∙_, ap}
-use lib.ListN.{length, drop, drop-of-length-le}
-use Rattle.page.specs.Text.{readFrom}
-use Rattle.page.proofs.Places.{ascii-at}
-use Rattle.page.proofs.Reading.{passes-at, next-place, halts-return, halts-ill}
+use mathlib.Core.Path.{refl}
+use lib.ListN.{length}
+use borrow.Author.Needs.{needs}
+use Rattle.page.proofs.Passing.{Reads, reads-first, counts, reads-return, reads-ill, reads-feed, reads-ascii, reads-more, reads-all}
+use Rattle.page.proofs.Reading.{next-place}
 use Rattle.page.proofs.text.Statement.{statement}
 use Rattle.page.proofs.text.Tie as tie
 
 abbrev Inv-loop : tie.InvT-loop
-Inv-loop page at₀ at = (at ≤ length page) × (readFrom 0 0 page ≡ readFrom 0 at (drop at page))
+Inv-loop page start at₀ line₀ begun₀ at line begun = Reads page start at line begun
 
 abbrev μ-loop : tie.MeasureT-loop
-μ-loop page at₀ at = length page - at
+μ-loop page start at₀ line₀ begun₀ at line begun = length page - at
 
 loop-holds : tie.Need-loop-holds Inv-loop μ-loop
-loop-holds c = (omega arith, refl)
+loop-holds c = reads-first _ _ _ _ (c .before .first-line .ensures) (c .first-line2 .ensures)
 
 shared-slice-read-byte : tie.Need-shared-slice-read-byte Inv-loop μ-loop
-shared-slice-read-byte c = omega arith
+shared-slice-read-byte c = c .before .loop-test .taken
+
+-- a carriage return
+bad-text-requires : tie.Need-bad-text-requires Inv-loop μ-loop
+bad-text-requires c κs =
+    let l = c .before .before .before .before .loop in
+    let t = c .before .before .before .loop-test .taken in
+    let n = counts _ _ _ _ _ (l .inv) t in
+    (n .1, omega (arith, t, c .before .before .before .before .before .before .before .before .good .0 .1))
 
 returns : tie.Need-returns Inv-loop μ-loop
 returns c =
-    let l = c .before .before .before .before .loop in
-    let page = c .before .before .before .before .before .before .args .page .now in
-    let here : l .at < length page = omega arith in
-    sym (l .inv .1 ∙ sym (halts-return page (l .at) here (c .if2 .taken)))
+    let l = c .before .before .before .before .before .loop in
+    reads-return _ _ _ _ _ (l .inv) (c .before .before .before .before .loop-test .taken) _ (c .bad-text .ensures) (c .before .if2 .taken)
+
+-- a line feed
+next-line-requires : tie.Need-next-line-requires Inv-loop μ-loop
+next-line-requires c κs =
+    let l = c .before .before .before .before .before .loop in
+    let t = c .before .before .before .before .loop-test .taken in
+    let n = counts _ _ _ _ _ (l .inv) t in
+    let long = c .before .before .before .before .before .before .before .before .before .good .0 .1 in
+    (omega (arith, n .0, t, long), omega (arith, t, long))
 
 add-at : tie.Need-add-at Inv-loop μ-loop
-add-at c = omega arith
+add-at c = omega (arith, c .before .before .before .before .before .before .loop-test .taken, c .before .before .before .before .before .before .before .before .before .before .before .good .0 .1)
 
 loop-less : tie.Need-loop-less Inv-loop μ-loop
-loop-less c = omega arith
+loop-less c = omega (arith, c .before .before .before .before .before .before .loop-test .taken)
 
 loop-again : tie.Need-loop-again Inv-loop μ-loop
 loop-again c =
-    let l = c .before .before .before .before .loop in
-    let page = c .before .before .before .before .before .before .args .page .now in
-    let here : l .at < length page = omega arith in (
-      omega arith,
-      l .inv .1 ∙ passes-at page (l .at) here 1 (λ e. omega arith) (c .if2 .left) (sym (ascii-at page (l .at) here (omega arith))),
-    )
+    let l = c .before .before .before .before .before .before .before .loop in
+    reads-feed _ _ _ _ _ (l .inv) (c .before .before .before .before .before .before .loop-test .taken) _ _ (c .before .before .if3 .taken) (c .before .next-line .ensures) (c .begun-by .ensures)
 
-size-at-requires : tie.Need-size-at-requires Inv-loop μ-loop
-size-at-requires c κs = (omega arith, refl)
-
-returns-2 : tie.Need-returns-2 Inv-loop μ-loop
-returns-2 c =
-    let l = c .before .before .before .before .before .loop in
-    let page = c .before .before .before .before .before .before .before .args .page .now in
-    let here : l .at < length page = omega arith in
-    sym (l .inv .1 ∙ sym (halts-ill page (l .at) here (sym (c .before .size-at .ensures) ∙ c .if3 .taken)))
-
+-- another ASCII byte
 add-at-2 : tie.Need-add-at-2 Inv-loop μ-loop
-add-at-2 c =
-    let l = c .before .before .before .before .before .loop in
-    let page = c .before .before .before .before .before .before .before .args .page .now in
-    let here : l .at < length page = omega arith in
-    let n = next-place page (l .at) here (c .before .size-at .result) (c .before .size-at .ensures) in
-    omega arith
+add-at-2 c = omega (arith, c .before .before .before .before .loop-test .taken, c .before .before .before .before .before .before .before .before .before .good .0 .1)
 
 loop-less-2 : tie.Need-loop-less-2 Inv-loop μ-loop
-loop-less-2 c =
-    let l = c .before .before .before .before .before .loop in
-    let page = c .before .before .before .before .before .before .before .args .page .now in
-    let here : l .at < length page = omega arith in
-    let n = next-place page (l .at) here (c .before .size-at .result) (c .before .size-at .ensures) in
-    omega arith
+loop-less-2 c = omega (arith, c .before .before .before .before .loop-test .taken)
 
 loop-again-2 : tie.Need-loop-again-2 Inv-loop μ-loop
 loop-again-2 c =
     let l = c .before .before .before .before .before .loop in
-    let page = c .before .before .before .before .before .before .before .args .page .now in
-    let here : l .at < length page = omega arith in
-    let size = c .before .size-at .result in (
-      next-place page (l .at) here size (c .before .size-at .ensures),
-      l .inv .1 ∙ passes-at page (l .at) here size (c .if3 .left) (λ e. omega arith) (c .before .size-at .ensures),
-    )
+    reads-ascii _ _ _ _ _ (l .inv) (c .before .before .before .before .loop-test .taken) (c .before .before .if1 .taken) (c .before .if2 .left) (c .if3 .left)
+
+-- a sequence, or none
+size-at-requires : tie.Need-size-at-requires Inv-loop μ-loop
+size-at-requires c κs = (c .before .before .loop-test .taken, refl)
+
+bad-text-requires-2 : tie.Need-bad-text-requires-2 Inv-loop μ-loop
+bad-text-requires-2 c κs =
+    let l = c .before .before .before .before .before .loop in
+    let t = c .before .before .before .before .loop-test .taken in
+    let n = counts _ _ _ _ _ (l .inv) t in
+    (n .1, omega (arith, t, c .before .before .before .before .before .before .before .before .before .good .0 .1))
+
+returns-2 : tie.Need-returns-2 Inv-loop μ-loop
+returns-2 c =
+    let l = c .before .before .before .before .before .before .loop in
+    reads-ill _ _ _ _ _ (l .inv) (c .before .before .before .before .before .loop-test .taken) _ _ (c .bad-text2 .ensures) (c .before .before .size-at .ensures) (c .before .if4 .taken)
+
+-- past it
+add-at-3 : tie.Need-add-at-3 Inv-loop μ-loop
+add-at-3 c = let n = next-place _ _ (c .before .before .before .before .loop-test .taken) (c .before .size-at .result) (c .before .size-at .ensures) in omega (arith, n, c .before .before .before .before .before .before .before .before .before .good .0 .1)
+
+loop-less-3 : tie.Need-loop-less-3 Inv-loop μ-loop
+loop-less-3 c = let n = next-place _ _ (c .before .before .before .before .loop-test .taken) (c .before .size-at .result) (c .before .size-at .ensures) in omega (arith, n, c .if4 .left)
+
+loop-again-3 : tie.Need-loop-again-3 Inv-loop μ-loop
+loop-again-3 c =
+    let l = c .before .before .before .before .before .loop in
+    reads-more _ _ _ _ _ (l .inv) (c .before .before .before .before .loop-test .taken) _ (c .before .before .if1 .left) (c .before .size-at .ensures) (c .if4 .left)
 
 returns-3 : tie.Need-returns-3 Inv-loop μ-loop
-unfolding readFrom
-returns-3 c =
-    let l = c .before .loop in
-    let page = c .before .before .before .args .page .now in
-    let end : length page ≤ l .at = omega arith in
-    sym (l .inv .1 ∙ ap (readFrom 0 (l .at)) (drop-of-length-le page end))
+returns-3 c = reads-all _ _ _ _ _ (c .before .loop .inv) (c .before .before .before .before .before .pre) (c .loop-test .left)
 
 pub text-spec : {M : Type 1} → statement M
 text-spec =
@@ -93,15 +103,24 @@ text-spec =
     (tie.spec
     Inv-loop
     μ-loop
+    (λ c κs. search needs)
+    (λ c κs. search needs)
     loop-holds
     shared-slice-read-byte
+    bad-text-requires
     returns
+    next-line-requires
+    (λ c κs. search needs)
     add-at
     loop-less
     loop-again
-    size-at-requires
-    returns-2
     add-at-2
     loop-less-2
     loop-again-2
+    size-at-requires
+    bad-text-requires-2
+    returns-2
+    add-at-3
+    loop-less-3
+    loop-again-3
     returns-3)

@@ -9,7 +9,13 @@
 //! Steps are not the crate's and aren't compared. At Nok the crate takes its
 //! events back, so there only the answer is. What the oracle calls `Outside`
 //! is counted and not compared. Leaves with status 1 where something differs.
+//!
+//! Offset and line of every place must be the crate's, and so must its column,
+//! unless a tab precedes it on its line: there ours must be the one in bytes
+//! (`columns.rs`).
 
+use programs::case::from_hex;
+use programs::columns::behind_tab;
 use std::fs::File;
 use std::io::{self, BufRead, BufReader};
 use std::process::ExitCode;
@@ -32,6 +38,25 @@ struct Line<'a> {
     events: Option<&'a str>,
 }
 
+/// How two lines differ, and what each says there.
+struct Difference<'a> {
+    why: &'static str,
+    expected: &'a str,
+    actual: &'a str,
+}
+
+impl<'a> Difference<'a> {
+    /// Tell a difference of two lines by their answers.
+    fn in_answers(why: &'static str, expected: &'a str, actual: &'a str) -> Difference<'a> {
+        let answer = |line| take_apart(line).map_or("none", |d| d.answer);
+        Difference {
+            why,
+            expected: answer(expected),
+            actual: answer(actual),
+        }
+    }
+}
+
 #[derive(Default)]
 struct Counts {
     cases: u64,
@@ -39,6 +64,8 @@ struct Counts {
     with_events: u64,
     outside: u64,
     differ: u64,
+    /// Columns that were held against the page and not against the crate.
+    in_bytes: u64,
     /// The first difference, and the one with the shortest case.
     first: Option<String>,
     smallest: Option<(usize, String)>,
@@ -81,6 +108,10 @@ fn say(counts: &Counts, digest: bool) {
         let smallest = counts.smallest.as_ref().map(|d| d.1.as_str());
         println!("smallest: {}", smallest.unwrap_or("none"));
     }
+    println!(
+        "{} columns behind a tab, held against the page",
+        counts.in_bytes
+    );
     let alone = counts.compared - counts.with_events;
     println!(
         "{} cases: {} compared with their events, {alone} in the answer alone, \
@@ -107,18 +138,19 @@ fn compare(oracle: &str, ours: &str, shown: u64) -> io::Result<Counts> {
             return Ok(counts);
         }
         counts.cases += 1;
-        let why = if !more_actual {
-            Some("our line is missing")
+        let difference = if !more_actual {
+            Some(Difference::in_answers("our line is missing", &expected, ""))
         } else if !more_expected {
-            Some("the oracle's line is missing")
+            let why = "the oracle's line is missing";
+            Some(Difference::in_answers(why, "", &actual))
         } else {
             judge(&expected, &actual, &mut counts)
         };
-        if let Some(why) = why {
+        if let Some(difference) = difference {
             counts.differ += 1;
-            remember(&mut counts, why, &expected, &actual);
+            remember(&mut counts, &difference, &expected);
             if counts.differ <= shown {
-                println!("DIFFERS line {}: {why}", counts.cases);
+                println!("DIFFERS line {}: {}", counts.cases, difference.why);
                 println!("  oracle: {expected}");
                 println!("  ours:   {actual}");
             }
@@ -127,16 +159,16 @@ fn compare(oracle: &str, ours: &str, shown: u64) -> io::Result<Counts> {
 }
 
 /// Keep a difference, if it is the first or smaller than those before.
-fn remember(counts: &mut Counts, why: &str, expected: &str, actual: &str) {
-    let case = expected.split(" => ").next().unwrap_or_default();
+fn remember(counts: &mut Counts, difference: &Difference, line: &str) {
+    let case = line.split(" => ").next().unwrap_or_default();
     let smaller = counts.smallest.as_ref().is_none_or(|d| case.len() < d.0);
     if smaller {
-        let answer = |line| take_apart(line).map_or("none", |d| d.answer);
-        let words = format!(
-            "{case} ({why}: oracle {}, ours {})",
-            answer(expected),
-            answer(actual)
-        );
+        let Difference {
+            why,
+            expected,
+            actual,
+        } = difference;
+        let words = format!("{case} ({why}: oracle {expected}, ours {actual})");
         counts.first.get_or_insert(words.clone());
         counts.smallest = Some((case.len(), words));
     }
@@ -168,32 +200,99 @@ fn next(input: &mut dyn BufRead, line: &mut String) -> io::Result<bool> {
 }
 
 /// Say how two lines differ.
-fn judge(expected: &str, actual: &str, counts: &mut Counts) -> Option<&'static str> {
-    let (Some(expected), Some(actual)) = (take_apart(expected), take_apart(actual)) else {
-        return Some("not a line about a case");
+fn judge<'a>(expected: &'a str, actual: &'a str, counts: &mut Counts) -> Option<Difference<'a>> {
+    let differ = |why| Some(Difference::in_answers(why, expected, actual));
+    let (Some(theirs), Some(ours)) = (take_apart(expected), take_apart(actual)) else {
+        return differ("not a line about a case");
     };
-    if expected.case != actual.case {
-        return Some("another case");
+    if theirs.case != ours.case {
+        return differ("another case");
     }
-    if expected.answer.starts_with("Outside") {
+    if theirs.answer.starts_with("Outside") {
         counts.outside += 1;
         return None;
     }
     counts.compared += 1;
-    if expected.answer == "Panic" {
-        return Some("the crate panicked");
+    if theirs.answer == "Panic" {
+        return differ("the crate panicked");
     }
-    if expected.answer != actual.answer {
-        return Some("answers");
+    let page = page_with_tab(theirs.case);
+    let mut apart = |theirs, ours| match &page {
+        None if theirs == ours => None,
+        page => first_apart(theirs, ours, page.as_deref(), &mut counts.in_bytes),
+    };
+    if apart(theirs.answer, ours.answer).is_some() {
+        return differ(why("answers", theirs.answer, ours.answer));
     }
-    if expected.answer == "Nok" {
+    if theirs.answer == "Nok" {
         return None;
     }
     counts.with_events += 1;
-    if expected.events.is_none() || expected.events != actual.events {
-        return Some("events");
+    let (Some(events), Some(our_events)) = (theirs.events, ours.events) else {
+        return differ("events");
+    };
+    let (expected, actual) = apart(events, our_events)?;
+    Some(Difference {
+        why: why("events", expected, actual),
+        expected,
+        actual,
+    })
+}
+
+/// What to call a difference: the same words can be one, behind a tab.
+fn why(what: &'static str, expected: &str, actual: &str) -> &'static str {
+    if expected == actual {
+        "the crate's column behind a tab"
+    } else {
+        what
     }
-    None
+}
+
+/// The page of a case, if it has a tab. Without one every column must be the
+/// crate's, and what is written can be compared as it is.
+fn page_with_tab(case: &str) -> Option<Vec<u8>> {
+    let page = case.split(' ').nth(5)?;
+    let mut bytes = page.as_bytes().chunks_exact(2);
+    bytes.any(|byte| byte == b"09").then(|| from_hex(page))?
+}
+
+/// The first words of two answers, or of two lists of events, that don't
+/// agree.
+fn first_apart<'a>(
+    expected: &'a str,
+    actual: &'a str,
+    page: Option<&[u8]>,
+    in_bytes: &mut u64,
+) -> Option<(&'a str, &'a str)> {
+    let (mut theirs, mut ours) = (expected.split(' '), actual.split(' '));
+    loop {
+        match (theirs.next(), ours.next()) {
+            (None, None) => return None,
+            (Some(theirs), Some(ours)) if agree(theirs, ours, page, in_bytes) => {}
+            (theirs, ours) => return Some((theirs.unwrap_or("none"), ours.unwrap_or("none"))),
+        }
+    }
+}
+
+/// Whether two words agree. Those with a place are `OFFSET:LINE:COLUMN` and
+/// `+NAME@OFFSET:LINE:COLUMN`.
+fn agree(expected: &str, actual: &str, page: Option<&[u8]>, in_bytes: &mut u64) -> bool {
+    let column = page.and_then(|page| {
+        let offset = offset_in(expected).filter(|d| *d <= page.len())?;
+        behind_tab(page, offset)
+    });
+    let (Some(column), Some((line, _))) = (column, expected.rsplit_once(':')) else {
+        return expected == actual;
+    };
+    *in_bytes += 1;
+    actual.rsplit_once(':') == Some((line, &*column.to_string()))
+}
+
+/// The offset in a word, if it has a place.
+fn offset_in(word: &str) -> Option<usize> {
+    let place = word.rsplit('@').next()?;
+    let (offset, _) = place.split_once(':')?;
+    offset.parse().ok()
 }
 
 /// Take `CASE => ANSWER [| steps N] [| events ..]` apart.

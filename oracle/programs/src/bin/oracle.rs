@@ -1,5 +1,6 @@
 //! Reads cases on standard input and writes the crate's answers:
-//! `CASE => ANSWER | events +NAME@OFFSET -NAME@OFFSET ..`.
+//! `CASE => ANSWER | events +NAME@OFFSET:LINE:COLUMN -NAME@OFFSET:LINE:COLUMN ..`,
+//! with the crate's own lines and columns.
 //!
 //! A line that isn't a case answers `BadLine`. A case whose run the crate does
 //! not decide (document 01, "Domain") answers `Outside (why)`. A panic inside

@@ -5,9 +5,15 @@
 //! taken before does; then, round after round, what was reached once, twice
 //! and so on, until there are as many lines as asked for. Leaves with status 1
 //! if a state of the judge's modules is not reached.
+//!
+//! Lines and columns are the crate's own, but for columns behind a tab: those
+//! are counted in bytes here, as the product counts them (`columns.rs`). The
+//! product compares what is recorded by its text, so it has to be written as
+//! the product must write it.
 
 use judge::{Answer, Call, Judge, STATES};
 use programs::case::{push_outcome, Case};
+use programs::columns::count_bytes;
 use programs::reach::{answer_words, reach};
 use std::collections::{BTreeMap, BTreeSet, HashMap};
 use std::io::{self, BufRead, BufWriter, Write};
@@ -112,7 +118,8 @@ fn read(judge: &Judge, numbers: &mut Numbers) -> io::Result<Vec<Candidate>> {
 }
 
 fn answered(case: &Case, judge: &Judge) -> (judge::Outcome, String) {
-    let outcome = case.judge(judge);
+    let mut outcome = case.judge(judge);
+    count_bytes(&case.page, &mut outcome);
     let mut line = case.line();
     line.push_str(" => ");
     push_outcome(&mut line, judge, &outcome);

@@ -8,7 +8,7 @@ use judge::{Construct, Kind, Verdict};
 use std::io::{self, Write};
 
 /// Small pages whose answers settle the definition.
-const SETTLED: [(Construct, &str); 50] = [
+const SETTLED: [(Construct, &str); 56] = [
     // Bench cases.
     (Expression, "{}"),
     (Expression, "{a}"),
@@ -43,6 +43,13 @@ const SETTLED: [(Construct, &str); 50] = [
     (Esm, "import a\n"),
     (Esm, "import a\n \nb"),
     (Esm, "import a\n\n\n"),
+    // Its line and column there, one past the block's end.
+    (Esm, "import a\n\n \n"),
+    (Esm, "import a\n\n\t\nb"),
+    (Esm, "import a\n \n\n"),
+    (Esm, "import a\n\t\n\n"),
+    (Esm, "import é\n\n"),
+    (Esm, "import a\n\n\n\n"),
     // Lines of an expression.
     (Expression, "{a\n  b}"),
     (Expression, "{a\n   \n}"),

@@ -6,7 +6,7 @@ use crate::case::Case;
 use judge::{Construct, Kind};
 use std::io::{self, Write};
 
-const PAGES: [&str; 16] = [
+const PAGES: [&str; 17] = [
     "",
     "\n",
     "a",
@@ -23,6 +23,8 @@ const PAGES: [&str; 16] = [
     "\nexport a\n\n  import b\n\timport c\n\n\nimport d\n",
     "{import a}\nimport {b}\n\n<import export='c'/>\n\n",
     "a < b > c { d } <e> / <f g=h> <i@j> {k",
+    // Lines that begin behind tabs, blank lines and longer characters.
+    "é{a\tb}\t<c\n\td=\"é\n\"/>\n\nimport e\n\n \t\n\nexport é\n\n\n",
 ];
 
 /// Every start of each page, for every construct, mode, kind and flag.

@@ -14,7 +14,7 @@ returns : tie.Need-returns
 returns c =
     let a = c .before .before .args in
     let words = a .words .now in
-    take-all (length words - 0) words (omega arith) ∙ sym (take-all (a .n * 2) words (omega arith))
+    take-all (length words - 0) words (omega arith) ∙ sym (take-all (a .n * 4) words (omega arith))
 
 returns-2 : tie.Need-returns-2
 returns-2 c = rw less-none

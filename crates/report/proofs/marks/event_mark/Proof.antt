@@ -9,27 +9,43 @@ sign-requires c κs = search needs
 kind-name-requires : tie.Need-kind-name-requires
 kind-name-requires c κs = search needs
 
-slice-aggregate-text : tie.Need-slice-aggregate-text
-slice-aggregate-text c = search needs
+slice-aggregate-joined : tie.Need-slice-aggregate-joined
+slice-aggregate-joined c = search needs
 
-text-requires : tie.Need-text-requires
-text-requires c κs = search needs
+cast-joined : tie.Need-cast-joined
+cast-joined c = search needs
 
-cast-number : tie.Need-cast-number
-cast-number c = search needs
+joined-requires : tie.Need-joined-requires
+joined-requires c κs = search needs
 
-number-requires : tie.Need-number-requires
-number-requires c κs = search needs
+slice-aggregate-joined-2 : tie.Need-slice-aggregate-joined-2
+slice-aggregate-joined-2 c = search needs
+
+cast-joined-2 : tie.Need-cast-joined-2
+cast-joined-2 c = search needs
+
+joined-requires-2 : tie.Need-joined-requires-2
+joined-requires-2 c κs = search needs
+
+slice-aggregate-joined-3 : tie.Need-slice-aggregate-joined-3
+slice-aggregate-joined-3 c = search needs
+
+cast-joined-3 : tie.Need-cast-joined-3
+cast-joined-3 c = search needs
+
+joined-requires-3 : tie.Need-joined-requires-3
+joined-requires-3 c κs = search needs
 
 same-length : tie.Need-same-length
 same-length c = search needs
 
 returns : tie.Need-returns
 returns c =
-    let signed = c .before .before .before .before .before .before .before .before .before .before .before .before .before .before .before .before .sign .ensures in
-    let named = then-put _ _ _ _ signed (c .before .before .before .before .before .before .before .before .before .before .before .before .kind-name .ensures) in
-    let parted = then-put _ _ _ _ named (c .before .before .before .before .before .before .before .text .ensures .1) in
-    let put = then-put _ _ _ _ parted (c .before .before .number .ensures) in
+    let signed = c .before .before .before .before .before .before .before .before .before .before .before .before .before .before .before .before .before .before .before .before .before .before .before .before .sign .ensures in
+    let named = then-put _ _ _ _ signed (c .before .before .before .before .before .before .before .before .before .before .before .before .before .before .before .before .before .before .before .before .kind-name .ensures) in
+    let column = then-put _ _ _ _ (c .before .before .before .before .before .before .before .before .joined2 .ensures .1) (c .before .before .joined3 .ensures .1) in
+    let where-it-is = then-put _ _ _ _ (c .before .before .before .before .before .before .before .before .before .before .before .before .before .before .joined .ensures .1) column in
+    let put = then-put _ _ _ _ named where-it-is in
     (within-put _ _ _ put, put)
 
 pub event-mark-spec : {M : Type 1} → statement M
@@ -38,9 +54,14 @@ event-mark-spec =
     (tie.spec
     sign-requires
     kind-name-requires
-    slice-aggregate-text
-    text-requires
-    cast-number
-    number-requires
+    slice-aggregate-joined
+    cast-joined
+    joined-requires
+    slice-aggregate-joined-2
+    cast-joined-2
+    joined-requires-2
+    slice-aggregate-joined-3
+    cast-joined-3
+    joined-requires-3
     same-length
     returns)

@@ -5,4 +5,4 @@ use Rattle.scan.proofs.Scan.given.Tie as tie
 
 pub given-spec : {M : Type 1} → statement M
 unfolding givenScan
-given-spec = tie.close (tie.spec (λ c κs. search needs) (λ c. rw (c .verdict-state .ensures)))
+given-spec = tie.close (tie.spec (λ c κs. search needs) (λ c. rw (c .before .verdict-state .ensures)))

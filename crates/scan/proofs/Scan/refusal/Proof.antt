@@ -10,7 +10,7 @@ use Rattle.scan.proofs.Scan.refusal.Tie as tie
 unlisted : tie.Need-returns-5
 unfolding refusal
 unlisted c =
-    let s = c .before .before .before .before .args .self in
+    let s = c .before .before .before .before .before .before .before .args .self in
     c .verdict-refusal .ensures ∙ not-found (s .tokenizer .state) (pageAnswers s) _ (c .before .match .rest)
 
 pub refusal-spec : {M : Type 1} → statement M
@@ -19,8 +19,10 @@ refusal-spec =
     tie.close
     (tie.spec
     (λ c κs. search needs)
-    (λ c. rw (c .match .keys1))
-    (λ c. rw (c .match .keys2))
-    (λ c. rw (c .match .keys3))
-    (λ c. rw (c .match .keys4))
+    (λ c κs. search needs)
+    (λ c κs. search needs)
+    (λ c. rw (c .match .keys1, c .before .before .spot-in .ensures, c .before .tally .ensures))
+    (λ c. rw (c .match .keys2, c .before .before .spot-in .ensures, c .before .tally .ensures))
+    (λ c. rw (c .match .keys3, c .before .before .spot-in .ensures, c .before .tally .ensures))
+    (λ c. rw (c .match .keys4, c .before .before .spot-in .ensures, c .before .tally .ensures))
     unlisted)

@@ -1,4 +1,4 @@
-use mathlib.Core.Path.{refl, _∙_}
+use mathlib.Core.Path.{_∙_}
 use borrow.Author.Needs.{needs}
 use borrow.Author.Tests.{le-leb, lt-leb}
 use Rattle.base.specs.If.{if_then_else_}
@@ -11,13 +11,13 @@ use Rattle.scan.proofs.Scan.stands.Tie as tie
 
 paused : tie.Need-returns
 unfolding answerOf
-paused c = if-yes _ _ _ _ _ (le-leb 32 _ (c .if1 .taken)) refl
+paused c = if-yes _ _ _ _ _ (le-leb 32 _ (c .if1 .taken)) (rw (c .before .before .spot-in .ensures, c .before .tally .ensures))
 
 refused : tie.Need-returns-5
 unfolding answerOf
 refused c =
     let k = c .before in
-    let s = k .before .before .before .args .self in
+    let s = k .before .before .before .before .before .before .args .self in
     if-no _ _ _ _ _ (lt-leb 32 _ (k .before .if1 .left)) (c .refusal .ensures ∙ not-found (s .tokenizer .state) (endAnswers s) _ (k .match .rest))
 
 pub stands-spec : {M : Type 1} → statement M
@@ -25,9 +25,11 @@ unfolding answerOf find if_then_else_
 stands-spec =
     tie.close
     (tie.spec
+    (λ c κs. search needs)
+    (λ c κs. search needs)
     paused
     (λ c κs. search needs)
-    (λ c. rw (c .match .keys1))
-    (λ c. rw (c .match .keys2))
-    (λ c. rw (c .match .keys3))
+    (λ c. rw (c .match .keys1, c .before .before .tally .ensures))
+    (λ c. rw (c .match .keys2, c .before .before .tally .ensures))
+    (λ c. rw (c .match .keys3, c .before .before .before .spot-in .ensures, c .before .before .tally .ensures))
     refused)

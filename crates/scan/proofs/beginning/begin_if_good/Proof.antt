@@ -7,10 +7,11 @@ begin-if-good-spec =
     tie.close
     (tie.spec
     (λ c. search needs)
+    (λ c κs. search needs)
     (λ c. search needs)
     (λ c. search needs)
     (λ c. search needs)
+    (λ c. rw (c .before .before .checked .given .1, c .fresh .ensures))
     (λ c. rw (c .enum-told .given .1))
     (λ c. rw (c .enum-told2 .given .1))
-    (λ c. rw (c .enum-told3 .given .1))
-    (λ c. rw (c .before .checked .given .1)))
+    (λ c. rw (c .before .checked2 .given .1)))

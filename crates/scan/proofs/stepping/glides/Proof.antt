@@ -1,7 +1,7 @@
 use mathlib.Core.Path.{sym, ap, _∙_}
 use mathlib.Core.Bool.{true, false, not, true≢false}
 use borrow.Author.Needs.{needs}
-use Rattle.scan.proofs.ShortWay.{stay, data-plain, lines, quoted, names}
+use Rattle.scan.proofs.ShortWay.{stay, data-plain, lines, quoted, names, data-in-line, line-in-line, quoted-in-line, name-in-line}
 use Rattle.scan.proofs.stepping.glides.Statement.{statement}
 use Rattle.scan.proofs.stepping.glides.Tie as tie
 
@@ -14,8 +14,27 @@ glides-spec =
     (λ c κs. search needs)
     (λ c κs. search needs)
     (λ c κs. search needs)
-    (λ c page t s q y. let k = c .before .if1 .taken in data-plain page t _ (s ∙ k) (sym (c .plain-data .ensures) ∙ y) ∙ ap stay (sym k))
-    (λ c page t s q y. let k = c .before .if2 .taken in lines page t _ (s ∙ k) (ap not (sym (c .line-ends .ensures)) ∙ y) ∙ ap stay (sym k))
-    (λ c page t s q y. let k = c .before .if3 .taken in quoted page t _ (s ∙ k) (rw q (ap not (sym (c .quoted-ends .ensures)) ∙ y)) ∙ ap stay (sym k))
-    (λ c page t s q y. names _ (sym (c .id-cont .ensures) ∙ y) page t (rw s (sym (c .before .before .inside-a-name .ensures) ∙ c .before .if4 .taken)) ∙ ap stay s)
-    (λ c page t s q y. absurd (true≢false (sym y))))
+    (λ c.
+    let k = c .before .if1 .taken in
+    record {
+      stays = λ page t s q y. data-plain page t _ (s ∙ k) (sym (c .plain-data .ensures) ∙ y) ∙ ap stay (sym k);
+      inLine = λ y. data-in-line _ (sym (c .plain-data .ensures) ∙ y);
+    })
+    (λ c.
+    let k = c .before .if2 .taken in
+    record {
+      stays = λ page t s q y. lines page t _ (s ∙ k) (ap not (sym (c .line-ends .ensures)) ∙ y) ∙ ap stay (sym k);
+      inLine = λ y. line-in-line _ (ap not (sym (c .line-ends .ensures)) ∙ y);
+    })
+    (λ c.
+    let k = c .before .if3 .taken in
+    record {
+      stays = λ page t s q y. quoted page t _ (s ∙ k) (rw q (ap not (sym (c .quoted-ends .ensures)) ∙ y)) ∙ ap stay (sym k);
+      inLine = λ y. quoted-in-line (c .before .before .before .before .args .b) (c .before .before .before .before .args .quote) (ap not (sym (c .quoted-ends .ensures)) ∙ y);
+    })
+    (λ c.
+    record {
+      stays = λ page t s q y. names _ (sym (c .id-cont .ensures) ∙ y) page t (rw s (sym (c .before .before .inside-a-name .ensures) ∙ c .before .if4 .taken)) ∙ ap stay s;
+      inLine = λ y. name-in-line _ (sym (c .id-cont .ensures) ∙ y);
+    })
+    (λ c. record { stays = λ page t s q y. absurd (true≢false (sym y)); inLine = λ y. absurd (true≢false (sym y)) }))

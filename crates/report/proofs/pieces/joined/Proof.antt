@@ -1,10 +1,7 @@
 use Rattle.report.proofs.Puts.{then-put, within-put}
 use borrow.Author.Needs.{needs}
-use Rattle.report.proofs.pieces.spaced.Statement.{statement}
-use Rattle.report.proofs.pieces.spaced.Tie as tie
-
-slice-aggregate-text : tie.Need-slice-aggregate-text
-slice-aggregate-text c = search needs
+use Rattle.report.proofs.pieces.joined.Statement.{statement}
+use Rattle.report.proofs.pieces.joined.Tie as tie
 
 text-requires : tie.Need-text-requires
 text-requires c κs = search needs
@@ -20,6 +17,5 @@ returns c =
     let put = then-put _ _ _ _ (c .before .before .before .before .before .before .text .ensures .1) (c .before .before .number .ensures) in
     (within-put _ _ _ put, put)
 
-pub spaced-spec : {M : Type 1} → statement M
-spaced-spec =
-    tie.close (tie.spec slice-aggregate-text text-requires number-requires same-length returns)
+pub joined-spec : {M : Type 1} → statement M
+joined-spec = tie.close (tie.spec text-requires number-requires same-length returns)

@@ -1,0 +1,92 @@
+-- What is promised of lines and columns, for an auditor to read: the registers of every scan that calls gave are the page's lines, so that
+-- each event, and each answer that names a place, carries the line and the column of its offset by the definition (crate `page`,
+-- Line.antt). The theorems are in proofs/Lined.antt, under the names that stand beside them here.
+use Prim.Native.Nat.{ℕ, _≤_}
+use mathlib.Core.Path.{_≡_}
+use mathlib.Core.Bool.{true}
+use mathlib.Core.List.{List, [], _∷_}
+use lib.ListN.{length, getD}
+use Rattle.base.specs.If.{among}
+use Rattle.base.specs.Number as number
+use Rattle.base.specs.State as state
+use Rattle.page.specs.Line.{lineOf, columnOf, lineAt}
+use Rattle.page.specs.Page.{pageOf}
+use Rattle.events.specs.declared.Event.{Event}
+use Rattle.scan.specs.declared.Scan.{Scan}
+use Rattle.scan.specs.Answer.{Said, answerOf}
+use Rattle.scan.specs.Call.{scanInRange, started, beginOf, freshScan}
+use Rattle.scan.specs.Scan.{runEvents}
+use Rattle.scan.specs.Statement.{Call, run, give, scanAfter}
+use Rattle.scan.specs.Alone.{eventsAlone, runAlone}
+use Rattle.scan_theorems.specs.Statement.{OfEveryScan}
+
+-- ---- the registers
+
+-- the scan is one of the page, in range, and its registers are the page's lines, each of its place: where the scan stands, where a
+-- look-ahead goes back to, and where a verdict found fault
+pub record OnLines (page : List ℕ) (s : Scan) : Type 0 where
+  pub range : scanInRange s ≡ true
+  pub size : length page ≡ s .tokenizer .job .length
+  pub inside : s .tokenizer .regs .fault ≤ length page
+  pub line : s .lines .line ≡ lineAt page (s .tokenizer .at)
+  pub kept : s .lines .kept ≡ lineAt page (s .tokenizer .regs .saved)
+  pub fault : s .lines .fault ≡ lineAt page (s .tokenizer .regs .fault)
+
+-- each run of the calls is over this page
+abbrev pub OverPage : List ℕ → List Call → Type 0
+OverPage page [] = Unit {0}
+OverPage page (run over k ∷ calls) = (over ≡ page) × OverPage page calls
+OverPage page (give v ∷ calls) = OverPage page calls
+
+-- `lines-are-the-pages`: a new scan has them, and so has every scan that calls give from there, whatever they answer, if the runs are lent
+-- the page that was admitted
+abbrev pub LinesKept : Type 0
+LinesKept =
+    (bytes : List ℕ) (at n start construct kind flags words : ℕ) (s : Scan)
+    → beginOf bytes at n start construct kind flags words ≡ started s
+    → (calls : List Call) (lent : List ℕ)
+    → OverPage (pageOf bytes at n) calls
+    → OnLines (pageOf bytes at n) (scanAfter calls s lent)
+
+-- ---- what follows for events and answers
+
+-- an event carries the line and the column of its offset
+pub record EventPlaced (page : List ℕ) (e : Event) : Type 0 where
+  pub line : e .line ≡ lineOf page (e .offset)
+  pub column : e .column ≡ columnOf page (e .offset)
+
+abbrev pub EachPlaced : List ℕ → List Event → Type 0
+EachPlaced page [] = Unit {0}
+EachPlaced page (e ∷ es) = EventPlaced page e × EachPlaced page es
+
+-- the answers that name a place (4 is answered before there is a scan: crate `page`, `text-is`)
+abbrev pub placeNamed : List ℕ
+placeNamed =
+    state.notAscii
+    ∷ state.eof
+    ∷ state.unexpected
+    ∷ state.verdictError
+    ∷ state.verdictEof
+    ∷ state.full
+    ∷ state.asking
+    ∷ number.paused
+    ∷ []
+
+-- such an answer carries the place first, then its line and its column
+abbrev pub AnswerPlaced : List ℕ → Said → Type 0
+AnswerPlaced page a =
+    among placeNamed (a .number) ≡ true
+    → (getD (a .values) 1 0 ≡ lineOf page (getD (a .values) 0 0)) × (getD (a .values) 2 0 ≡ columnOf page (getD (a .values) 0 0))
+
+-- `events-carry-their-lines`, `answers-carry-their-lines`: of every run of a scan whose registers are the page's lines
+abbrev pub EventsPlaced : Type 0
+EventsPlaced = (page : List ℕ) (k : ℕ) (s : Scan) → OnLines page s → EachPlaced page (runEvents page k s)
+
+abbrev pub AnswersPlaced : Type 0
+AnswersPlaced = (page : List ℕ) (s : Scan) → OnLines page s → AnswerPlaced page (answerOf s)
+
+-- `a-scan-carries-its-lines`: and so of every scan from its start
+abbrev pub ScansPlaced : Type 0
+ScansPlaced =
+    OfEveryScan λ page j k vs.
+    EachPlaced page (eventsAlone page k vs (freshScan page j)) × AnswerPlaced page (answerOf (runAlone page k vs (freshScan page j)))
