@@ -20,7 +20,7 @@ use Rattle.tokenizer.specs.Ranges.{esm, largestNumber}
 use Rattle.scan.specs.declared.Scan.{Scan}
 use Rattle.scan.specs.Answer.{Said, said}
 use Rattle.scan.specs.Call.{started, beginOf, runOf, giveOf}
-use Rattle.scan.specs.Statement.{Call, run, give, scanAfter, wordsAfter, eventsAfter}
+use Rattle.scan.specs.Statement.{Call, run, scanAfter, wordsAfter, eventsAfter}
 use Rattle.scan_theorems.specs.Lines.{OverPage}
 use Rattle.mdx_collect.specs.Collect.{asked, bodyPlaces, bodyOf}
 use Rattle.body_theorems.specs.Events.{eventBody}

@@ -1,9 +1,9 @@
 -- The registers of every scan that calls gave are the page's lines, and so each event, and each answer that names a place, carries the line
 -- and the column of its offset.
-use Prim.Native.Nat.{ℕ, zero, suc, _+_, _-_, _≤_, _<_}
+use Prim.Native.Nat.{ℕ, zero, suc, _+_, _-_, _≤_}
 use native.Mathlib.Omega.{arith}
-use mathlib.Core.Path.{_≡_, refl, sym, ap, ap₂, _∙_}
-use mathlib.Core.Bool.{Bool, true, false, _&&_}
+use mathlib.Core.Path.{_≡_, refl, sym, ap, _∙_}
+use mathlib.Core.Bool.{Bool, true, false}
 use mathlib.Core.List.{List, [], _∷_, _++_}
 use lib.Dec.{leb, ltb, eqb}
 use lib.ListN.{length}
@@ -21,13 +21,13 @@ use Rattle.base.specs.declared.Effect.the-variants.{Keep, Deeper, Shallower, Op
 use Rattle.base.specs.declared.Move.{Move}
 use Rattle.base.specs.declared.Verdict.{Verdict}
 use Rattle.page.specs.declared.line.Line.{Line}
-use Rattle.page.specs.Line.{lineOf, columnOf, firstOf, lineAt, nextLine}
+use Rattle.page.specs.Line.{lineOf, columnOf, firstOf, lineAt}
 use Rattle.page.specs.Page.{pageOf}
-use Rattle.page.proofs.Lines.{line-first, line-fed, line-on, first-within, line-within, column-from-first}
+use Rattle.page.proofs.Lines.{line-first, line-fed, line-on, line-within, column-from-first}
 use Rattle.body_places.proofs.Place.{place-in, byte-past}
 use Rattle.events.specs.declared.Event.{Event}
 use Rattle.events.specs.declared.Point.{Point}
-use Rattle.events.specs.Event.{point, event, eventAt, eventsAt}
+use Rattle.events.specs.Event.{point, event, eventsAt}
 use Rattle.tokenizer.specs.declared.Job.{Job}
 use Rattle.tokenizer.specs.declared.Regs.{Regs}
 use Rattle.tokenizer.specs.Moved.{oneMore, nextPlace, placeAfter, changed, moved}
@@ -36,14 +36,14 @@ use Rattle.scan.specs.declared.lines.Lines.{Lines}
 use Rattle.scan.specs.declared.Scan.{Scan}
 use Rattle.scan.specs.Answer.{Said, endAnswers, pageAnswers, verdictAnswers, verdictRefusal, refusal, answerOf}
 use Rattle.scan.specs.Lines.{highest, linePast, columnIn, pointIn, linesAfter}
-use Rattle.scan.specs.Scan.{choice, carriedOut, lineNext, linesStep, marksAt, stepScan, stepEvents, runScan, runEvents}
-use Rattle.scan.specs.Call.{scanInRange, givable, givenScan, giveOf, runnable, runOf, jobOf, freshIn, freshScan, started, beginOf}
+use Rattle.scan.specs.Scan.{choice, carriedOut, lineNext, stepScan, stepEvents, runScan, runEvents}
+use Rattle.scan.specs.Call.{givable, givenScan, giveOf, runnable, runOf, jobOf, freshIn, freshScan}
 use Rattle.scan.specs.Statement.{Call, run, give, scanAfter}
 use Rattle.scan.specs.Alone.{toldScan, runAlone, eventsAlone}
 use Rattle.scan.proofs.Begun.{begins}
 use Rattle.scan.proofs.Kept.{step-job}
 use Rattle.scan.proofs.Runs.{run-keeps}
-use Rattle.scan_theorems.specs.Lines.{OnLines, OverPage, LinesKept, EventPlaced, EachPlaced, AnswerPlaced, EventsPlaced, AnswersPlaced, ScansPlaced}
+use Rattle.scan_theorems.specs.Lines.{OnLines, OverPage, LinesKept, EachPlaced, AnswerPlaced, EventsPlaced, AnswersPlaced, ScansPlaced}
 use Rattle.scan_theorems.specs.Statement.{Heard}
 use Rattle.scan_theorems.proofs.Tests.{clash}
 use Rattle.scan_theorems.proofs.There.{byte-there}
