@@ -1,10 +1,10 @@
 -- What the one pass over a page has found out when it has come to a place: nothing at fault so far, the line of the place, and the line
 -- of the start, as far as it is passed.
-use Prim.Native.Nat.{ℕ, suc, _+_, _-_, _≤_, _<_}
+use Prim.Native.Nat.{ℕ, _+_, _-_, _≤_, _<_}
 use native.Mathlib.Omega.{arith}
 use native.Mathlib.Decide.{decLe}
 use mathlib.Core.Path.{_≡_, refl, sym, ap, ap₂, _∙_}
-use mathlib.Core.Bool.{true, false}
+use mathlib.Core.Bool.{false}
 use mathlib.Core.Logic.{by-cases}
 use mathlib.Core.List.{List}
 use lib.Dec.{eqb, ltb}
@@ -19,7 +19,7 @@ use Rattle.page.specs.declared.Checked.{Checked}
 use Rattle.page.specs.declared.Checked.the-variants.{Good, BadText}
 use Rattle.page.specs.Utf8.{sequence}
 use Rattle.page.specs.Line.{lineOf, columnOf, spot, firstOf, lineAt, firstLine, nextLine}
-use Rattle.page.specs.Text.{Reading, good, fault, readFrom, readText}
+use Rattle.page.specs.Text.{fault, readFrom, readText}
 use Rattle.page.specs.Page.{checkedBy}
 use Rattle.page.proofs.Lines.{line-first, line-fed, same-line, first-within, column-from-first, line-within}
 use Rattle.page.proofs.Places.{ascii-at}

@@ -5,7 +5,7 @@
 -- allowance of 0, a single scan resumed when finished, without its verdict, or with a page or event buffer of another length.
 use Prim.Native.Nat.{ℕ, _%_}
 use mathlib.Core.Bool.{Bool, false, _&&_}
-use mathlib.Core.List.{List, [], _∷_}
+use mathlib.Core.List.{List, []}
 use lib.ListN.{length}
 use lib.Dec.{leb, ltb, eqb}
 use Rattle.base.specs.If.{if_then_else_}

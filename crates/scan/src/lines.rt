@@ -7,7 +7,6 @@ use page::line::Spot;
 use page::line::line_at;
 ghost use mathlib.Core.Path.{_≡_};
 ghost use Prim.Native.Nat.{_+_, _-_, _≤_, _<_, _^_};
-ghost use Rattle.base.specs.Page.{pageLimit};
 ghost use Rattle.tokenizer.specs.Moved.{oneMore};
 ghost use Rattle.scan.specs.Lines.{highest, linePast, columnIn, spotIn, pointIn, linesOf, linesAfter, linesInRange};
 

@@ -1,12 +1,11 @@
 use Prim.Native.Nat.{_-_}
 use native.Mathlib.Omega.{arith}
-use mathlib.Core.Path.{sym, ap, _∙_}
+use mathlib.Core.Path.{ap, _∙_}
 use borrow.Author.Needs.{needs}
 use borrow.Author.Tests.{lt-ltb, le-ltb}
 use Rattle.base.specs.Decide.{countOf}
 use Rattle.tokenizer.specs.Decision.{decision}
 use Rattle.events.specs.Words.{roomIn}
-use Rattle.scan.specs.declared.lines.Lines.{Lines}
 use Rattle.scan.specs.Scan.{choice, movedScan}
 use Rattle.scan.proofs.Steps.{few-marks, few-count, fits, none, lacking}
 use Rattle.scan.proofs.Scan.one_step.Statement.{statement}

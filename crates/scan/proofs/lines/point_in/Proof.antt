@@ -1,5 +1,4 @@
 use borrow.Author.Needs.{needs}
-use native.Mathlib.Omega.{arith}
 use Rattle.scan.proofs.lines.point_in.Statement.{statement}
 use Rattle.scan.proofs.lines.point_in.Tie as tie
 
