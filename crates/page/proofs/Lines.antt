@@ -35,10 +35,6 @@ module _ (page : List ℕ) where
         if-is Line (λ (l : Line). lineAt page (o + 1) ≡ l) (eqb (byteAt page o) lineFeed) (nextLine (lineAt page o) o) (lineAt page o)
         (λ e. line-fed (eqb-true (byteAt page o) lineFeed e)) line-on
 
-    pub column-fed : byteAt page o ≡ lineFeed → columnOf page (o + 1) ≡ 1
-    unfolding columnOf if_then_else_
-    column-fed e = ap (columnOf page) (add-one o) ∙ rw (eq-eqb (byteAt page o) lineFeed e)
-
   -- a line begins at or before its offset, and the column counts from there
   pub first-within : (o : ℕ) → firstOf page o ≤ o
   unfolding firstOf if_then_else_

@@ -1,4 +1,5 @@
 pub mod Begun
+pub mod Glided
 pub mod Kept
 pub mod Pausing
 pub mod Ranged

@@ -21,7 +21,8 @@ use Rattle.tokenizer.specs.Decision.{decision}
 use Rattle.events.specs.Words.{written}
 use Rattle.events.proofs.Laws.{count-is, written-append, written-none}
 use Rattle.scan.specs.Scan.{choice, carriedOut, linesStep, movedScan, stepScan, stepEvents, runScan, runEvents, runWords}
-use Rattle.scan.specs.Inner.{Fit, Glides}
+use Rattle.scan.specs.Inner.{Fit}
+use Rattle.scan.specs.Gliding.{Glides}
 use Rattle.scan.proofs.Steps.{none, fit-step}
 
 -- ---- how a run unfolds

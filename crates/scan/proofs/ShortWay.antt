@@ -21,7 +21,7 @@ use Rattle.mdx_jsx_attribute.specs.Attribute.{quotedEnds}
 use Rattle.mdx_esm.specs.Esm.{lineEnds}
 use Rattle.tokenizer.specs.declared.Tokenizer.{Tokenizer}
 use Rattle.tokenizer.specs.Decision.{notAscii, takesAscii, refusesNotAscii, esmDecision, attributeDecision, tagDecision, expressionDecision, stateDecision, decision}
-use Rattle.scan.specs.Inner.{plainData, insideAName}
+use Rattle.scan.specs.Gliding.{plainData, insideAName}
 
 -- the byte is eaten, and the state stays
 abbrev pub stay : ℕ → Move
@@ -129,3 +129,19 @@ quoted-in-line b quote e = or-left (eqb b lineFeed) _ (or-right (eqb b quote) _ 
 
 pub name-in-line : (b : ℕ) → isIdCont b ≡ true → eqb b lineFeed ≡ false
 name-in-line b e = ne-eqb b lineFeed (λ q. let r = id-cont-range b e in omega (arith, q))
+
+-- ---- nor the page's end
+
+pub data-on-page : (b : ℕ) → plainData b ≡ true → eqb b endOfPage ≡ false
+unfolding among
+data-on-page b e = or-left (eqb b endOfPage) _ (or-right (eqb b rightBrace) _ (or-right (eqb b leftBrace) _ (or-right (eqb b lineFeed) _ (not-yes _ e))))
+
+pub line-on-page : (b : ℕ) → not (lineEnds b) ≡ true → eqb b endOfPage ≡ false
+unfolding among
+line-on-page b e = or-left (eqb b endOfPage) _ (or-right (eqb b lineFeed) _ (not-yes (lineEnds b) e))
+
+pub quoted-on-page : (b quote : ℕ) → not (quotedEnds b quote) ≡ true → eqb b endOfPage ≡ false
+quoted-on-page b quote e = or-right (eqb b lineFeed) _ (or-right (eqb b quote) _ (not-yes (quotedEnds b quote) e))
+
+pub name-on-page : (b : ℕ) → isIdCont b ≡ true → eqb b endOfPage ≡ false
+name-on-page b e = ne-eqb b endOfPage (λ q. let r = id-cont-range b e in omega (arith, q))

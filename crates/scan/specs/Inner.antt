@@ -1,20 +1,10 @@
 -- What inner functions ask of their callers, so that no sum of theirs wraps. No promise to a user of the library cites these.
 use Prim.Native.Nat.{ℕ, _+_, _≤_, _<_, _^_}
 use mathlib.Core.Path.{_≡_}
-use mathlib.Core.Bool.{Bool, true, false, not}
-use mathlib.Core.List.{List, [], _∷_}
-use lib.Dec.{eqb}
+use mathlib.Core.List.{List}
 use lib.ListN.{length}
-use Rattle.base.specs.Byte.{lineFeed, leftBrace, rightBrace, endOfPage}
-use Rattle.base.specs.If.{among}
 use Rattle.base.specs.Page.{pageLimit, byteAt}
-use Rattle.base.specs.Range.{within}
-use Rattle.base.specs.State.{mdxJsxPrimaryName, mdxJsxAttributeLocalName}
-use Rattle.base.specs.Decide.{eat}
-use Rattle.base.specs.declared.Marks.the-variants.{Nothing}
 use Rattle.events.specs.Words.{roomIn}
-use Rattle.tokenizer.specs.declared.Tokenizer.{Tokenizer}
-use Rattle.tokenizer.specs.Decision.{decision}
 use Rattle.scan.specs.declared.lines.Lines.{Lines}
 use Rattle.scan.specs.declared.Scan.{Scan}
 use Rattle.scan.specs.Lines.{highest}
@@ -44,16 +34,3 @@ pub record Counts (s : Scan) (n : ℕ) : Type 0 where
 pub record Stepping (s : Scan) (page words : List ℕ) (b : ℕ) : Type 0 where
   pub fit : Fit s (length page) (length words)
   pub byte : b ≡ byteAt page (s .tokenizer .at)
-
--- what neither ends nor nests an expression
-abbrev pub plainData : ℕ → Bool
-plainData b = not (among (lineFeed ∷ leftBrace ∷ rightBrace ∷ endOfPage ∷ []) b)
-
--- one of the five states inside a name
-abbrev pub insideAName : ℕ → Bool
-insideAName name = within mdxJsxPrimaryName mdxJsxAttributeLocalName name
-
--- where the test r holds of a state's number, a quote and a byte, the state eats the byte and stays, with no event, in the same line
-pub record Glides (name quote b : ℕ) (r : Bool) : Type 0 where
-  pub stays : (page : List ℕ) (t : Tokenizer) → t .state ≡ name → t .regs .quote ≡ quote → r ≡ true → decision page t b ≡ eat name Nothing
-  pub inLine : r ≡ true → eqb b lineFeed ≡ false

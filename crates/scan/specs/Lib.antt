@@ -2,6 +2,7 @@ pub mod Alone
 pub mod Answer
 pub mod Bench
 pub mod Call
+pub mod Gliding
 pub mod Inner
 pub mod Lines
 pub mod Scan

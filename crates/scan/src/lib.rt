@@ -1,7 +1,8 @@
-// A scan by value: the tokenizer, the lines of its places, how many events it has written to the lent words, and how many steps it has made. The Rust is
-// `tokenizer.rs`; pausing, verdict numbers and the answers are ours.
+// A scan by value: the tokenizer, the lines of its places, how many events it has written to the lent words, and how many steps it has
+// made. The Rust is `tokenizer.rs`; pausing, verdict numbers and the answers are ours.
 //
-// Its steps are in `stepping`, its lines in `lines`, its answers in `answering`, a new scan in `beginning`, and the calls of one that was begun in `calling`.
+// Its steps are in `stepping` and their short way in `gliding`, its lines in `lines`, its answers in `answering`, a new scan in
+// `beginning`, and the calls of one that was begun in `calling`.
 use crate::lines::Lines;
 use page::line::Spot;
 use tokenizer::Tokenizer;
@@ -9,6 +10,7 @@ use tokenizer::Tokenizer;
 pub mod answering;
 pub mod beginning;
 pub mod calling;
+pub mod gliding;
 pub mod lines;
 pub mod stepping;
 

@@ -7,6 +7,7 @@ use page::line::Spot;
 use page::line::line_at;
 ghost use mathlib.Core.Path.{_≡_};
 ghost use Prim.Native.Nat.{_+_, _-_, _≤_, _<_, _^_};
+ghost use Rattle.base.specs.If.{if_then_else_};
 ghost use Rattle.tokenizer.specs.Moved.{oneMore};
 ghost use Rattle.scan.specs.Lines.{highest, linePast, columnIn, spotIn, pointIn, linesOf, linesAfter, linesInRange};
 
@@ -56,6 +57,17 @@ pub(crate) fn line_past(line: Line, at: usize, b: u16) -> Line
             number: counted(line.number),
             first: at + 1,
         };
+    }
+    line
+}
+
+// The line of the byte that comes next, if the byte b of a place is eaten or not.
+pub(crate) fn line_next(line: Line, at: usize, eat: bool, b: u16) -> Line
+    requires { ⌜ at < 2 ^ 63 ⌝ }
+    ensures { λ r. ⌜ r ≡ (if eat then linePast line at b else line) ⌝ }
+{
+    if eat {
+        return line_past(line, at, b);
     }
     line
 }

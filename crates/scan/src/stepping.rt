@@ -1,15 +1,17 @@
 // Steps: the decision of the state that a scan is in, its events, and the count; and the loop that makes them.
 use crate::Scan;
+use crate::gliding::glide;
+use crate::gliding::glides;
 use crate::lines::Lines;
+use crate::lines::line_next;
 use crate::lines::line_past;
 use crate::lines::point_in;
 use base::Marks;
 use base::Move;
-use base::byte;
 use base::byte_at;
-use base::eat;
 use base::retry;
 use base::state;
+use tokenizer::Tokenizer;
 ghost use mathlib.Core.Path.{_≡_};
 ghost use Prim.Native.Nat.{_+_, _-_, _*_, _≤_, _<_, _^_};
 ghost use lib.ListN.{length};
@@ -19,45 +21,8 @@ ghost use Rattle.events.specs.Words.{written};
 ghost use Rattle.tokenizer.specs.Moved.{oneMore};
 ghost use Rattle.scan.specs.Lines.{highest};
 ghost use Rattle.scan.specs.Scan.{movedScan, linesStep, marksAt, stepScan, stepEvents, runScan, runWords};
-ghost use Rattle.scan.specs.Inner.{Fit, Counts, Stepping, plainData, insideAName, Glides};
-
-// Data that neither ends nor nests an expression.
-fn plain_data(b: u16) -> bool
-    ensures { λ r. ⌜ r ≡ plainData b ⌝ }
-{
-    match b {
-        byte::LINE_FEED | byte::LEFT_BRACE | byte::RIGHT_BRACE | byte::END_OF_PAGE => false,
-        _ => true,
-    }
-}
-
-// One of the five states inside a name.
-fn inside_a_name(name: u8) -> bool
-    ensures { λ r. ⌜ r ≡ insideAName name ⌝ }
-{
-    match name {
-        state::MDX_JSX_PRIMARY_NAME..=state::MDX_JSX_ATTRIBUTE_LOCAL_NAME => true,
-        _ => false,
-    }
-}
-
-// Whether the state passes the byte with no event and no change but of place: where most bytes of a page are. None of them is a line
-// feed, so that the lines stay as they are.
-fn glides(name: u8, quote: u16, b: u16) -> bool
-    ensures { λ r. ⌜ Glides name quote b r ⌝ }
-{
-    if name == state::MDX_EXPRESSION_INSIDE {
-        plain_data(b)
-    } else if name == state::MDX_ESM_INSIDE {
-        !mdx_esm::line_ends(b)
-    } else if name == state::MDX_JSX_ATTRIBUTE_VALUE_QUOTED {
-        !mdx_jsx_attribute::quoted_ends(b, quote)
-    } else if inside_a_name(name) {
-        char_class::id_cont(b)
-    } else {
-        false
-    }
-}
+ghost use Rattle.scan.specs.Inner.{Fit, Counts, Stepping};
+ghost use Rattle.scan.specs.Gliding.{countedOn, passedScan};
 
 // What a run over the bytes from the start to the page's end takes at the most.
 pub(crate) fn step_bound(length: usize, start: usize) -> usize
@@ -74,6 +39,19 @@ fn count_step(steps: usize, length: usize, start: usize) -> usize
 {
     let bound = step_bound(length, start);
     if steps < bound { steps + 1 } else { steps }
+}
+
+// k more steps, up to the bound.
+fn count_steps(steps: usize, bound: usize, k: usize) -> usize
+    ensures { λ r. ⌜ r ≡ countedOn steps bound k ⌝ }
+{
+    if bound <= steps {
+        return steps;
+    }
+    if bound - steps < k {
+        return bound;
+    }
+    steps + k
 }
 
 impl Scan {
@@ -94,6 +72,32 @@ impl Scan {
         }
     }
 
+    // The scan after k steps that did no more than pass a byte each.
+    fn passed(self, k: usize) -> Self
+        requires { ⌜ Counts self 0 × (self .tokenizer .at + k < 2 ^ 64) ⌝ }
+        ensures { λ r. ⌜ r ≡ passedScan self k ⌝ }
+    {
+        let tokenizer = self.tokenizer;
+        let lines = self.lines;
+        let job = tokenizer.job;
+        let regs = tokenizer.regs;
+        let heard = tokenizer.heard;
+        let steps = count_steps(self.steps, step_bound(job.length, job.start), k);
+        let tokenizer = Tokenizer {
+            job,
+            state: tokenizer.state,
+            at: tokenizer.at + k,
+            regs,
+            heard,
+        };
+        Scan {
+            tokenizer,
+            lines,
+            used: self.used,
+            steps,
+        }
+    }
+
     // The lines after a decision at the byte b.
     fn lines_after(self, page: &[u8], m: Move, b: u16) -> Lines
         requires { ⌜ (self .tokenizer .at < 2 ^ 63) × (b ≡ byteAt (now page) (self .tokenizer .at)) ⌝ }
@@ -102,10 +106,7 @@ impl Scan {
         let lines = self.lines;
         let line = lines.line;
         let effect = m.effect;
-        if m.eat {
-            return lines.after(page, effect, line_past(line, self.tokenizer.at, b));
-        }
-        lines.after(page, effect, line)
+        lines.after(page, effect, line_next(line, self.tokenizer.at, m.eat, b))
     }
 
     // The events of a step at the byte b are written.
@@ -155,10 +156,13 @@ impl Scan {
             if name < state::FIRST_RUNNING {
                 return s;
             }
-            let b = byte_at(page, s.tokenizer.at);
-            if glides(name, s.tokenizer.regs.quote, b) {
-                s = s.moved(eat(name, Marks::Nothing), 0, s.lines);
-                left = left - 1;
+            let at = s.tokenizer.at;
+            let quote = s.tokenizer.regs.quote;
+            let b = byte_at(page, at);
+            if glides(name, quote, b) {
+                let k = glide(page, name, quote, at, left);
+                s = s.passed(k);
+                left = left - k;
                 continue;
             }
             s = s.one_step(page, words, b);

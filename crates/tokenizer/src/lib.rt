@@ -23,20 +23,9 @@ pub struct Job {
     pub words: usize,
 }
 
-// What the states remember between steps.
+// What the states remember between steps. The fields go from wide to narrow, so that none has a gap behind it: a gap is copied through
+// the stack with every step.
 pub struct Regs {
-    // The state that white space or an expression returns to; DONE for an expression that stands alone.
-    pub back: u8,
-    // How many braces are open in the expression, and how long the line prefix is.
-    pub depth: u32,
-    pub prefix: u8,
-    // The quote that the value ends with.
-    pub quote: u16,
-    // The number of the last unfinished verdict, or of the verdict that ended the scan; 0 for none.
-    pub last: u32,
-    // Where a refusal stands, and its note.
-    pub site: u8,
-    pub note: u8,
     // The place that a look-ahead goes back to.
     pub saved: usize,
     // Where the expression's body begins, and where its first line prefix does; 0 for none.
@@ -44,6 +33,19 @@ pub struct Regs {
     pub joint: usize,
     // Where the verdict that ended the scan found fault.
     pub fault: usize,
+    // How many braces are open in the expression.
+    pub depth: u32,
+    // The number of the last unfinished verdict, or of the verdict that ended the scan; 0 for none.
+    pub last: u32,
+    // The quote that the value ends with.
+    pub quote: u16,
+    // The state that white space or an expression returns to; DONE for an expression that stands alone.
+    pub back: u8,
+    // How long the line prefix is.
+    pub prefix: u8,
+    // Where a refusal stands, and its note.
+    pub site: u8,
+    pub note: u8,
 }
 
 // The Rust's tokenizer, by value and without its events: the state that runs next, its place, and what the states remember.

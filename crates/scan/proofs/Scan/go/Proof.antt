@@ -1,8 +1,9 @@
 use native.Mathlib.Omega.{arith}
-use mathlib.Core.Path.{refl, _∙_}
+use mathlib.Core.Path.{refl}
 use borrow.Author.Needs.{needs}
 use Rattle.scan.proofs.Steps.{few-count}
-use Rattle.scan.proofs.Runs.{Going, glide, going-rest, going-out, going-more}
+use Rattle.scan.proofs.Runs.{Going, going-rest, going-out, going-more}
+use Rattle.scan.proofs.Glided.{going-on}
 use Rattle.scan.proofs.Scan.go.Statement.{statement}
 use Rattle.scan.proofs.Scan.go.Tie as tie
 
@@ -22,18 +23,24 @@ returns : tie.Need-returns Inv-loop μ-loop
 returns c = going-rest (c .before .before .loop .inv) (c .if1 .taken)
 
 -- the short way
-moved-requires : tie.Need-moved-requires Inv-loop μ-loop
-moved-requires c κs =
+glide-requires : tie.Need-glide-requires Inv-loop μ-loop
+glide-requires c κs =
+    let g = c .before in
+    let t = g .before in
+    let l = t .before .before .before in
+    let f = l .loop .inv .fit in
+    (f .short, f .at, t .before .before .loop-test .taken, rw (← (t .byte-at .ensures), ← (c .if2 .taken)) (g .glides .ensures))
+
+passed-requires : tie.Need-passed-requires Inv-loop μ-loop
+passed-requires c κs =
     let l = c .before .before .before .before .before .before in
-    few-count _ _ _ 0 (l .loop .inv .fit) (omega (arith, l .loop .inv .same, l .before .before .before)) (omega arith)
+    (few-count _ _ _ 0 (l .loop .inv .fit) (omega (arith, l .loop .inv .same, l .before .before .before)) (omega arith), omega (arith, c .glide .ensures .onPage, l .loop .inv .fit .short))
 
 loop-again : tie.Need-loop-again Inv-loop μ-loop
 loop-again c =
-    let g = c .before .before .before in
-    let t = g .before in
-    let l = t .before .before .before in
-    let e = glide _ _ _ _ _ _ (t .byte-at .ensures) (g .glides .ensures) (c .before .before .if2 .taken) (c .before .eat .ensures) in
-    going-more (l .loop .inv) (t .before .before .loop-test .taken) (t .before .if1 .left) (c .moved .ensures ∙ e .0) (e .1) refl
+    let d = c .before in
+    let t = d .before .before .before in
+    rw (c .passed .ensures) (going-on (t .before .before .before .loop .inv) (t .before .if1 .left) _ (d .glide .ensures))
 
 -- the general step
 one-step-requires : tie.Need-one-step-requires Inv-loop μ-loop
@@ -62,10 +69,10 @@ go-spec =
     returns
     (λ c κs. search needs)
     (λ c κs. search needs)
-    (λ c κs. search needs)
-    moved-requires
-    (λ c. search needs)
-    (λ c. search needs)
+    glide-requires
+    passed-requires
+    (λ c. omega (arith, c .before .glide .ensures .enough))
+    (λ c. omega (arith, c .before .glide .ensures .some, c .before .glide .ensures .enough))
     loop-again
     one-step-requires
     (λ c. search needs)

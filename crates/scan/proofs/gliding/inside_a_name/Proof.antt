@@ -1,8 +1,8 @@
 use native.Mathlib.Omega.{arith}
 use mathlib.Core.Path.{sym}
 use Rattle.base.proofs.Ranges.{is-within, below, above}
-use Rattle.scan.proofs.stepping.inside_a_name.Statement.{statement}
-use Rattle.scan.proofs.stepping.inside_a_name.Tie as tie
+use Rattle.scan.proofs.gliding.inside_a_name.Statement.{statement}
+use Rattle.scan.proofs.gliding.inside_a_name.Tie as tie
 
 pub inside-a-name-spec : {M : Type 1} → statement M
 inside-a-name-spec =

@@ -1,0 +1,67 @@
+-- What the short way asks and gives. No promise to a user of the library cites these.
+use Prim.Native.Nat.{ℕ, zero, suc, _+_, _-_, _≤_, _<_}
+use mathlib.Core.Path.{_≡_}
+use mathlib.Core.Bool.{Bool, true, false, not}
+use mathlib.Core.List.{List, [], _∷_}
+use lib.Dec.{eqb, ltb}
+use lib.ListN.{length}
+use Rattle.base.specs.Byte.{lineFeed, leftBrace, rightBrace, endOfPage}
+use Rattle.base.specs.If.{if_then_else_, among}
+use Rattle.base.specs.Page.{byteAt}
+use Rattle.base.specs.Range.{within}
+use Rattle.base.specs.State.{mdxJsxPrimaryName, mdxJsxAttributeLocalName}
+use Rattle.base.specs.Decide.{eat}
+use Rattle.base.specs.declared.Marks.the-variants.{Nothing}
+use Rattle.tokenizer.specs.declared.Tokenizer.{Tokenizer}
+use Rattle.tokenizer.specs.Decision.{decision}
+use Rattle.tokenizer.specs.Moved.{oneMore}
+use Rattle.scan.specs.declared.Scan.{Scan}
+use Rattle.scan.specs.Scan.{stepBound}
+
+-- what neither ends nor nests an expression
+abbrev pub plainData : ℕ → Bool
+plainData b = not (among (lineFeed ∷ leftBrace ∷ rightBrace ∷ endOfPage ∷ []) b)
+
+-- one of the five states inside a name
+abbrev pub insideAName : ℕ → Bool
+insideAName name = within mdxJsxPrimaryName mdxJsxAttributeLocalName name
+
+-- where the test r holds of a state's number, a quote and a byte, the byte is one of the page, and the state eats it and stays, with no
+-- event, in the same line
+pub record Glides (name quote b : ℕ) (r : Bool) : Type 0 where
+  pub stays : (page : List ℕ) (t : Tokenizer) → t .state ≡ name → t .regs .quote ≡ quote → r ≡ true → decision page t b ≡ eat name Nothing
+  pub inLine : r ≡ true → eqb b lineFeed ≡ false
+  pub onPage : r ≡ true → eqb b endOfPage ≡ false
+
+-- the same of every byte from one place to another, which is no further than a limit
+pub record GlidesTo (page : List ℕ) (name quote from limit end : ℕ) : Type 0 where
+  pub onward : from ≤ end
+  pub within : from ≤ limit → end ≤ limit
+  pub each : (i : ℕ) → from ≤ i → i < end → Glides name quote (byteAt page i) true
+
+-- k bytes from a place on, one at least, are passed so in as many of the steps that are left
+pub record Glided (page : List ℕ) (name quote at left k : ℕ) : Type 0 where
+  pub some : 0 < k
+  pub enough : k ≤ left
+  pub onPage : at + k ≤ length page
+  pub each : (i : ℕ) → i < k → Glides name quote (byteAt page (at + i)) true
+
+-- the furthest place that so many steps can reach
+abbrev pub furthestPlace : ℕ → ℕ → ℕ → ℕ
+furthestPlace end at left = if ltb left (end - at) then at + left else end
+
+-- the count of steps after k more
+unfoldable pub countedOn : ℕ → ℕ → ℕ → ℕ
+countedOn steps bound zero = steps
+countedOn steps bound (suc k) = oneMore (countedOn steps bound k) bound
+
+-- a scan after k steps that did no more than pass a byte each
+abbrev pub passedScan : Scan → ℕ → Scan
+passedScan s k =
+    let t = s .tokenizer in
+    record {
+      tokenizer = record { job = t .job; state = t .state; at = t .at + k; regs = t .regs; heard = t .heard };
+      lines = s .lines;
+      used = s .used;
+      steps = countedOn (s .steps) (stepBound (t .job)) k;
+    }

@@ -1,0 +1,91 @@
+// The short way through a page: bytes that a state passes with no event and no change but of place. A loop finds how many there are,
+// and they are counted as the steps that they are.
+use base::byte;
+use base::state;
+use base::wide;
+ghost use mathlib.Core.Path.{_≡_};
+ghost use mathlib.Core.Bool.{true};
+ghost use Prim.Native.Nat.{_≤_, _<_};
+ghost use lib.ListN.{length};
+ghost use Rattle.base.specs.Page.{pageLimit, byteAt};
+ghost use Rattle.scan.specs.Gliding.{plainData, insideAName, Glides, GlidesTo, Glided, furthestPlace};
+
+// Data that neither ends nor nests an expression.
+fn plain_data(b: u16) -> bool
+    ensures { λ r. ⌜ r ≡ plainData b ⌝ }
+{
+    match b {
+        byte::LINE_FEED | byte::LEFT_BRACE | byte::RIGHT_BRACE | byte::END_OF_PAGE => false,
+        _ => true,
+    }
+}
+
+// One of the five states inside a name.
+fn inside_a_name(name: u8) -> bool
+    ensures { λ r. ⌜ r ≡ insideAName name ⌝ }
+{
+    match name {
+        state::MDX_JSX_PRIMARY_NAME..=state::MDX_JSX_ATTRIBUTE_LOCAL_NAME => true,
+        _ => false,
+    }
+}
+
+// Whether the state passes the byte with no event and no change but of place: where most bytes of a page are. None of them is a line
+// feed, so that the lines stay as they are.
+pub(crate) fn glides(name: u8, quote: u16, b: u16) -> bool
+    ensures { λ r. ⌜ Glides name quote b r ⌝ }
+{
+    if name == state::MDX_EXPRESSION_INSIDE {
+        plain_data(b)
+    } else if name == state::MDX_ESM_INSIDE {
+        !mdx_esm::line_ends(b)
+    } else if name == state::MDX_JSX_ATTRIBUTE_VALUE_QUOTED {
+        !mdx_jsx_attribute::quoted_ends(b, quote)
+    } else if inside_a_name(name) {
+        char_class::id_cont(b)
+    } else {
+        false
+    }
+}
+
+// How far the state passes bytes so: from a place on, up to a limit.
+fn glide_end(page: &[u8], name: u8, quote: u16, from: usize, limit: usize) -> usize
+    requires { ⌜ limit ≤ length (now page) ⌝ }
+    ensures { λ r. ⌜ GlidesTo (now (page .entry)) name quote from limit r ⌝ }
+{
+    let mut end = from;
+    while end < limit {
+        if !glides(name, quote, wide(page[end])) {
+            return end;
+        }
+        end = end + 1;
+    }
+    end
+}
+
+// The furthest place that so many steps can reach.
+fn furthest_place(length: usize, at: usize, left: usize) -> usize
+    requires { ⌜ at ≤ length ⌝ }
+    ensures { λ r. ⌜ r ≡ furthestPlace length at left ⌝ }
+{
+    if left < length - at {
+        at + left
+    } else {
+        length
+    }
+}
+
+// How many bytes the state passes so, from a place on whose byte is one, in so many steps.
+pub(crate) fn glide(page: &[u8], name: u8, quote: u16, at: usize, left: usize) -> usize
+    requires { ⌜ (length (now page) ≤ pageLimit) × (at ≤ length (now page)) × (0 < left) × Glides name quote (byteAt (now page) at) true ⌝ }
+    ensures { λ k. ⌜ Glided (now (page .entry)) name quote at left k ⌝ }
+{
+    glide_end(
+        page,
+        name,
+        quote,
+        at + 1,
+        furthest_place(page.len(), at, left),
+    )
+        - at
+}
