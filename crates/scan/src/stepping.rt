@@ -18,7 +18,6 @@ ghost use lib.ListN.{length};
 ghost use Rattle.base.specs.Page.{pageLimit, byteAt};
 ghost use Rattle.base.specs.Decide.{listOf, countOf};
 ghost use Rattle.events.specs.Words.{written};
-ghost use Rattle.tokenizer.specs.Moved.{oneMore};
 ghost use Rattle.scan.specs.Lines.{highest};
 ghost use Rattle.scan.specs.Scan.{movedScan, linesStep, marksAt, stepScan, stepEvents, runScan, runWords};
 ghost use Rattle.scan.specs.Inner.{Fit, Counts, Stepping};
@@ -30,15 +29,6 @@ pub(crate) fn step_bound(length: usize, start: usize) -> usize
     ensures { λ r. ⌜ r ≡ 8 * (length - start + 1) ⌝ }
 {
     8 * (length - start + 1)
-}
-
-// One more step, up to the bound.
-fn count_step(steps: usize, length: usize, start: usize) -> usize
-    requires { ⌜ (start ≤ length) × (length ≤ pageLimit) ⌝ }
-    ensures { λ r. ⌜ r ≡ oneMore steps (8 * (length - start + 1)) ⌝ }
-{
-    let bound = step_bound(length, start);
-    if steps < bound { steps + 1 } else { steps }
 }
 
 // k more steps, up to the bound.
@@ -62,7 +52,7 @@ impl Scan {
     {
         let tokenizer = self.tokenizer;
         let job = tokenizer.job;
-        let steps = count_step(self.steps, job.length, job.start);
+        let steps = count_steps(self.steps, step_bound(job.length, job.start), 1);
         let tokenizer = tokenizer.moved(m);
         Scan {
             tokenizer,
