@@ -1,3 +1,4 @@
 pub mod Choice
 pub mod Ranges
 pub mod Tables
+pub mod Tabs

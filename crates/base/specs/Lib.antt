@@ -6,4 +6,5 @@ pub mod Number
 pub mod Page
 pub mod Range
 pub mod State
+pub mod Tab
 pub mod Table

@@ -2,6 +2,7 @@
 ghost use mathlib.Core.Path.{_≡_};
 ghost use Rattle.base.specs.Decide as decide;
 ghost use Rattle.base.specs.Page.{byteAt, afterLineFeed, inColumnOne};
+ghost use Rattle.base.specs.Tab.{columnsOf};
 
 pub mod byte;
 pub mod kind;
@@ -26,6 +27,14 @@ pub enum Marks {
     Four(Mark, Mark, Mark, Mark),
 }
 
+// How many columns of an unfinished tab are passed at a place: the `vs` of the Rust's `Point`. Outside is everywhere but inside a tab.
+pub enum InTab {
+    Outside,
+    Past1,
+    Past2,
+    Past3,
+}
+
 // What a step does to the registers of a scan.
 pub enum Effect {
     Keep,
@@ -38,6 +47,8 @@ pub enum Effect {
     PrefixBegins,
     PrefixGoesOn,
     PrefixEnds,
+    // It ends inside a tab, of which so many columns are the prefix's.
+    PrefixInTab(InTab),
     // The quote that a value ends with.
     Quote(u16),
     // The state that white space or an expression returns to.
@@ -125,6 +136,18 @@ pub fn refuse(answer: u8, site: u8, note: u8) -> Move
         eat: false,
         marks: Marks::Nothing,
         effect: Effect::Refuse(site, note),
+    }
+}
+
+// The columns as a number.
+pub fn columns(tab: InTab) -> usize
+    ensures { λ r. ⌜ r ≡ columnsOf tab ⌝ }
+{
+    match tab {
+        InTab::Outside => 0,
+        InTab::Past1 => 1,
+        InTab::Past2 => 2,
+        InTab::Past3 => 3,
     }
 }
 

@@ -6,7 +6,7 @@ use mathlib.Core.Path.{_≡_, refl, sym, ap, _∙_}
 use mathlib.Core.Bool.{true, false}
 use mathlib.Core.List.{List, [], _∷_}
 use lib.Dec.{eqb}
-use lib.ListN.{length, getD, List·getD-map}
+use lib.ListN.{length}
 use borrow.Author.Tests.{eq-eqb, le-ltb, lt-ltb, ltb-false, le-leb}
 use Rattle.base.specs.If.{if_then_else_}
 use Rattle.base.proofs.Choice.{if-no, case, and-yes, and-no′}
@@ -15,12 +15,13 @@ use Rattle.base.specs.Page.{byteAt}
 use Rattle.base.specs.State as state
 use Rattle.base.specs.Table.{find}
 use Rattle.base.specs.Decide.{retry, retryWith, countOf}
+use Rattle.base.specs.declared.InTab.the-variants.{Outside}
 use Rattle.base.specs.declared.Marks.the-variants.{Nothing}
 use Rattle.base.specs.declared.Effect.the-variants.{Fault}
 use Rattle.base.specs.declared.Move.{Move}
 use Rattle.base.specs.declared.Verdict.{Verdict}
 use Rattle.base.specs.declared.Verdict.the-variants.{Wrong}
-use Rattle.body_places.specs.Body.{bytesAt, placeOf}
+use Rattle.body_places.specs.Body.{placesOf, placeOf}
 use Rattle.events.specs.Words.{roomIn}
 use Rattle.events.proofs.Laws.{written-long}
 use Rattle.page.specs.Line.{lineOf, columnOf, lineAt}
@@ -30,7 +31,7 @@ use Rattle.tokenizer.specs.Moved.{moved}
 use Rattle.tokenizer.specs.Ranges.{esm, largestNumber, verdictInRange}
 use Rattle.tokenizer.specs.declared.Job.{Job}
 use Rattle.scan.specs.declared.Scan.{Scan}
-use Rattle.scan.specs.Lines.{columnIn}
+use Rattle.scan.specs.Lines.{columnIn, withinEnd}
 use Rattle.scan.specs.Scan.{counted, choice, lacks, carriedOut, linesStep, movedScan, stepScan, runScan, runEvents}
 use Rattle.scan.specs.Answer.{said, answerOf, refusal, verdictRefusal}
 use Rattle.scan.specs.Call.{runnable, runOf, givable, givenScan, giveOf, freshIn}
@@ -40,13 +41,13 @@ use Rattle.scan.proofs.Kept.{run-job}
 use Rattle.scan.proofs.Begun.{begins}
 use Rattle.scan_theorems.proofs.Fresh.{length-short}
 use Rattle.scan_theorems.proofs.FaultPlaces.{expression-within, esm-within}
-use Rattle.scan_theorems.proofs.Lined.{column-is}
+use Rattle.scan_theorems.proofs.Lined.{column-is, not-cut}
 use Rattle.scan_theorems.proofs.Parts.{parts}
 use Rattle.scan_theorems.proofs.Scans.{within-range, step-counted}
-use Rattle.mdx_collect.specs.Collect.{bodyPlaces, bodyOf}
-use Rattle.body_theorems.specs.Events.{Runs, runs, collectEvents}
-use Rattle.body_theorems.specs.Statement.{linePlaces, OfEveryAskingScan, errorAnswer, ErrorPlaced}
+use Rattle.body_theorems.specs.Events.{Runs, noRuns, collectEvents}
+use Rattle.body_theorems.specs.Statement.{lineCells, OfEveryAskingScan, errorAnswer, ErrorPlaced}
 use Rattle.body_theorems.proofs.Together.{Together}
+use Rattle.body_theorems.proofs.Places.{places-part}
 use Rattle.body_theorems.proofs.OneBody.{together-given, together-calls, together-new, one-body}
 
 -- ---- the event words keep their length
@@ -94,7 +95,7 @@ module _ (page : List ℕ) (s : Scan) (r : Runs) (words : List ℕ) (h : Togethe
 
   -- and then decides, at the place that the lines say
   abbrev place : ℕ
-  place = placeOf (linePlaces page s) offset (s .tokenizer .at)
+  place = placeOf (placesOf (lineCells page s)) offset (s .tokenizer .at)
 
   abbrev error : Move
   error = retryWith state.verdictError Nothing (Fault number place)
@@ -103,7 +104,7 @@ module _ (page : List ℕ) (s : Scan) (r : Runs) (words : List ℕ) (h : Togethe
   unfolding choice decision stateDecision expressionDecision esmDecision find givenScan expressionFault esmFault within if_then_else_
   decides =
       case _ (eqb (s .tokenizer .job .construct) esm)
-      (λ c. rw (c, and-no′ (notAscii (byteAt page (s .tokenizer .at))) false refl))
+      (λ c. rw (c, and-no′ (notAscii (byteAt page (s .tokenizer .at))) false refl, places-part page (s .tokenizer .at - s .tokenizer .job .start) (s .tokenizer .job .start)))
       (λ c. rw (c, and-no′ (notAscii (byteAt page (s .tokenizer .at))) false refl))
 
   goes : state.rests (given .tokenizer .state) ≡ false
@@ -131,23 +132,30 @@ module _ (page : List ℕ) (s : Scan) (r : Runs) (words : List ℕ) (h : Togethe
   unfolding stepScan givenScan
   counted-is = step-counted page given (still .within) goes
 
-  tells : answerOf afterError ≡ said 8 (place ∷ lineOf page place ∷ columnIn (lineAt page place) place ∷ number ∷ (s .used + 0) ∷ counted given ∷ [])
+  -- the line of the place is looked up no further than one past the page's end
+  abbrev lookedUp : ℕ
+  lookedUp = withinEnd page place
+
+  tells : answerOf afterError ≡ said 8 (place ∷ lineOf page lookedUp ∷ columnIn (lineAt page lookedUp) Outside ∷ number ∷ (s .used + 0) ∷ counted given ∷ [])
   unfolding answerOf refusal verdictRefusal find moved givenScan if_then_else_
   tells = refl
 
-  -- the byte at fault is a byte of the body, or the one that asked, so that its column is counted to the end
-  place-inside : place ≤ s .tokenizer .at
+  -- the place at fault is no further on than one past the byte that asked, so that it is found, and its column counted to the end
+  place-inside : place ≤ s .tokenizer .at + 1
   unfolding if_then_else_
   place-inside =
       case _ (eqb (s .tokenizer .job .construct) esm)
-      (λ c. rw c (esm-within page (s .tokenizer .at) (s .tokenizer .job .start) offset))
+      (λ c. rw (c, places-part page (s .tokenizer .at - s .tokenizer .job .start) (s .tokenizer .job .start)) (omega (arith, esm-within page (s .tokenizer .at) (s .tokenizer .job .start) offset)))
       (λ c. rw c (expression-within page (s .tokenizer .at) (s .tokenizer .regs .body) offset))
 
-  column-there : columnIn (lineAt page place) place ≡ columnOf page place
+  found-there : lookedUp ≡ place
+  found-there = let p = parts (s .tokenizer) (h .within .sound .range) in not-cut page place (omega (arith, place-inside, p .at, h .within .sound .size))
+
+  column-there : columnIn (lineAt page place) Outside ≡ columnOf page place
   column-there =
       let p = parts (s .tokenizer) (h .within .sound .range) in
       let short = length-short (s .tokenizer .job) (p .job) in
-      column-is page (omega (arith, short, h .within .sound .size)) place (omega (arith, place-inside, p .at, short))
+      column-is page (omega (arith, short, h .within .sound .size)) place (omega (arith, place-inside, p .at, short)) Outside ∙ add-zero (columnOf page place)
 
   -- one step answers, and there is no other
   run-is : (k : ℕ) → 0 < k → runScan page k given ≡ afterError
@@ -165,18 +173,16 @@ module _ (page : List ℕ) (s : Scan) (r : Runs) (words : List ℕ) (h : Togethe
       )
 
   error-answered : (k : ℕ) → 0 < k → errorAnswer page s words number offset k ≡ said 8 (place ∷ lineOf page place ∷ columnOf page place ∷ number ∷ s .used ∷ (s .steps + 1) ∷ [])
-  error-answered k p = ap (λ (x : Scan). runOf page k x words .answer) given-is ∙ ran-is k p ∙ ap answerOf (run-is k p) ∙ tells ∙ rw (counted-is, add-zero, column-there)
-
--- the byte at the place of a body's byte is that byte
-byte-placed : (page places : List ℕ) (r at : ℕ) → byteAt page (placeOf places r at) ≡ getD (bytesAt page places) r (byteAt page at)
-byte-placed page places r at = sym (List·getD-map (byteAt page) places r at)
+  error-answered k p = ap (λ (x : Scan). runOf page k x words .answer) given-is ∙ ran-is k p ∙ ap answerOf (run-is k p) ∙ tells ∙ rw (found-there, counted-is, column-there, add-zero)
 
 pub an-error-is-placed-at-its-byte : OfEveryAskingScan ErrorPlaced
-unfolding bodyOf freshIn
+unfolding freshIn
 an-error-is-placed-at-its-byte bytes at n start construct kind flags lent s e calls over a number offset allowance k v p =
     let page = pageOf bytes at n in
     let last = scanAfter calls s lent in
+    let r = collectEvents page (eventsAfter calls s lent) in
     let new : Lent s lent = ap (λ (x : Scan). x .tokenizer .job .words) (sym (begins bytes at n start construct kind flags (length lent) s e .fresh)) in
-    let h = together-calls page calls s lent (runs [] 0) over (together-new bytes at n start construct kind flags (length lent) s e) in
-    let o = one-body page last (collectEvents (eventsAfter calls s lent)) h a .0 in
-    (rw (sym o) at (error-answered page last (collectEvents (eventsAfter calls s lent)) (wordsAfter calls s lent) h (lent-calls calls s lent new) number offset k v allowance p), byte-placed page (bodyPlaces page last) offset (last .tokenizer .at))
+    let h = together-calls page calls s lent noRuns over (together-new bytes at n start construct kind flags (length lent) s e) in
+    let o = one-body page last r h a in
+    let same : lineCells page last ≡ r .cells = sym (o .0) ∙ o .1 in
+    rw same at (error-answered page last r (wordsAfter calls s lent) h (lent-calls calls s lent new) number offset k v allowance p)

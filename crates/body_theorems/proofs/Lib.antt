@@ -9,3 +9,4 @@ pub mod Together
 pub mod OneBody
 pub mod Parts
 pub mod Errors
+pub mod Scratch

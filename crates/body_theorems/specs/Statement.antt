@@ -1,17 +1,16 @@
 -- The body three ways, for an auditor to read: as `collect` hands it over, as the page's lines say it, and as the events say it. For every scan
 -- that calls gave they are the same. A verdict that says error is placed by it.
-use Prim.Native.Nat.{ℕ, _+_, _<_}
+use Prim.Native.Nat.{ℕ, _+_, _-_, _<_}
 use mathlib.Core.Path.{_≡_}
 use mathlib.Core.Bool.{true}
 use mathlib.Core.List.{List, [], _∷_}
 use lib.Dec.{eqb}
-use lib.ListN.{length, getD}
+use lib.ListN.{length}
 use Rattle.base.specs.If.{if_then_else_}
-use Rattle.base.specs.Page.{byteAt}
 use Rattle.base.specs.Range.{within}
 use Rattle.base.specs.State.{asking}
 use Rattle.base.specs.declared.Verdict.the-variants.{Wrong}
-use Rattle.body_places.specs.Body.{expressionPlaces, esmPlaces, bytesAt, placeOf}
+use Rattle.body_places.specs.Body.{Cell, bytesOf, placesOf, expressionCells, partCells, placeOf}
 use Rattle.events.specs.declared.Event.{Event}
 use Rattle.events.specs.Words.{eventsIn}
 use Rattle.page.specs.Line.{lineOf, columnOf}
@@ -20,22 +19,22 @@ use Rattle.tokenizer.specs.Ranges.{esm, largestNumber}
 use Rattle.scan.specs.declared.Scan.{Scan}
 use Rattle.scan.specs.Answer.{Said, said}
 use Rattle.scan.specs.Call.{started, beginOf, runOf, giveOf}
-use Rattle.scan.specs.Statement.{Call, run, scanAfter, wordsAfter, eventsAfter}
+use Rattle.scan.specs.Statement.{Call, scanAfter, wordsAfter, eventsAfter}
 use Rattle.scan_theorems.specs.Lines.{OverPage}
-use Rattle.mdx_collect.specs.Collect.{asked, bodyPlaces, bodyOf}
-use Rattle.body_theorems.specs.Events.{eventBody}
+use Rattle.mdx_collect.specs.Collect.{asked, bodyOf}
+use Rattle.body_theorems.specs.Events.{eventCells, eventBody}
 
 -- ---- the body by the page's lines
 
--- docs/SCOPE.md, 'Body': "The data and line endings in order, without line prefixes." 'Expression, with verdicts': "After a line ending, at most
--- two tabs or spaces are a line prefix, not body." A block of ESM has no line prefixes.
-abbrev pub linePlaces : List ℕ → Scan → List ℕ
-linePlaces page s =
-    if eqb (s .tokenizer .job .construct) esm then esmPlaces (s .tokenizer .job .start) (s .tokenizer .at)
-    else expressionPlaces page (s .tokenizer .regs .body) (s .tokenizer .at)
+-- docs/SCOPE.md, 'Body': "The data and line endings in order, without line prefixes." 'Tabs': after a line ending at most two columns of spaces
+-- or of a tab are a line prefix, not body, and the rest of that tab is spaces. A block of ESM has no line prefixes.
+abbrev pub lineCells : List ℕ → Scan → List Cell
+lineCells page s =
+    if eqb (s .tokenizer .job .construct) esm then partCells page (s .tokenizer .job .start) (s .tokenizer .at - s .tokenizer .job .start)
+    else expressionCells page (s .tokenizer .regs .body) (s .tokenizer .at)
 
 abbrev pub lineBody : List ℕ → Scan → List ℕ
-lineBody page s = bytesAt page (linePlaces page s)
+lineBody page s = bytesOf (lineCells page s)
 
 -- ---- the promise
 
@@ -61,15 +60,14 @@ OneBody page s words events = (bodyOf page s ≡ lineBody page s) × (bodyOf pag
 abbrev pub errorAnswer : List ℕ → Scan → List ℕ → ℕ → ℕ → ℕ → Said
 errorAnswer page s words number r allowance = runOf page allowance (giveOf s (Wrong number r) .scan) words .answer
 
--- "A verdict error at body offset r is placed at that body byte; for r at or past the length, at the byte that asked."
-abbrev pub errorPlace : List ℕ → Scan → ℕ → ℕ
-errorPlace page s r = placeOf (bodyPlaces page s) r (s .tokenizer .at)
+-- docs/SCOPE.md, 'Tabs': "A verdict error at body offset r is placed at the first offset of r's run plus the distance of r from that run's first body
+-- index; for r at or past the length, at the byte that asked." The runs are those of the events.
+abbrev pub errorPlace : List ℕ → Scan → List Event → ℕ → ℕ
+errorPlace page s events r = placeOf (placesOf (eventCells page events)) r (s .tokenizer .at)
 
--- it answers 8 with that place, its line and column, the verdict's number, its event count and one step more, whatever the allowance; and the byte at that place is the
--- body's byte r, or the byte that asked
+-- it answers 8 with that place, its line and column, the verdict's number, its event count and one step more, whatever the allowance
 abbrev pub ErrorPlaced : List ℕ → Scan → List ℕ → List Event → Type 0
 ErrorPlaced page s words events =
     (number r allowance : ℕ) → s .tokenizer .state ≡ asking → within 1 largestNumber number ≡ true → 0 < allowance
-    → let place = errorPlace page s r in
-    (errorAnswer page s words number r allowance ≡ said 8 (place ∷ lineOf page place ∷ columnOf page place ∷ number ∷ s .used ∷ (s .steps + 1) ∷ []))
-    × (byteAt page place ≡ getD (bodyOf page s) r (byteAt page (s .tokenizer .at)))
+    → let place = errorPlace page s events r in
+    errorAnswer page s words number r allowance ≡ said 8 (place ∷ lineOf page place ∷ columnOf page place ∷ number ∷ s .used ∷ (s .steps + 1) ∷ [])

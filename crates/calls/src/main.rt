@@ -18,7 +18,10 @@ const LENT_ROOM: usize = 60_000;
 
 const WORD_ROOM: usize = 65_537;
 
-const TEXT_ROOM: usize = 131_072;
+// A body may be half as long again as its page, since a tab that is split is spaces in it.
+const SCRATCH_ROOM: usize = LENT_ROOM + LENT_ROOM / 2;
+
+const TEXT_ROOM: usize = 196_608;
 
 // More than there are lines and reads in any input.
 const TURNS: u64 = 18_446_744_073_709_551_615;
@@ -27,7 +30,7 @@ fn main() {
     let mut buffer = [0u8; LINE_ROOM];
     let mut lent = [0u8; LENT_ROOM];
     let mut events = [0u32; WORD_ROOM];
-    let mut scratch = [0u8; LENT_ROOM];
+    let mut scratch = [0u8; SCRATCH_ROOM];
     let mut out = [0u8; TEXT_ROOM];
     run_all(&mut buffer, &mut lent, &mut events, &mut scratch, &mut out);
 }
@@ -37,7 +40,7 @@ fn run_all(
     buffer: &mut [u8; LINE_ROOM],
     lent: &mut [u8; LENT_ROOM],
     events: &mut [u32; WORD_ROOM],
-    scratch: &mut [u8; LENT_ROOM],
+    scratch: &mut [u8; SCRATCH_ROOM],
     out: &mut [u8; TEXT_ROOM],
 ) {
     let mut run = fresh_run();

@@ -17,9 +17,12 @@ const LINE_ROOM: usize = 1_572_864;
 
 const PAGE_ROOM: usize = 60_000;
 
+// A body may be half as long again as its page, since a tab that is split is spaces in it.
+const SCRATCH_ROOM: usize = PAGE_ROOM + PAGE_ROOM / 2;
+
 const WORD_ROOM: usize = 6 * (PAGE_ROOM + 1) * events::WIDTH;
 
-const PIECE_ROOM: usize = 131_072;
+const PIECE_ROOM: usize = 196_608;
 
 const TEXT_ROOM: usize = 65_536;
 
@@ -30,7 +33,7 @@ fn main() {
     let mut buffer = [0u8; LINE_ROOM];
     let mut page = [0u8; PAGE_ROOM];
     let mut words = [0u32; WORD_ROOM];
-    let mut scratch = [0u8; PAGE_ROOM];
+    let mut scratch = [0u8; SCRATCH_ROOM];
     let mut piece = [0u8; PIECE_ROOM];
     let mut out = [0u8; TEXT_ROOM];
     run_all(
@@ -48,7 +51,7 @@ fn run_all(
     buffer: &mut [u8; LINE_ROOM],
     page: &mut [u8; PAGE_ROOM],
     words: &mut [u32; WORD_ROOM],
-    scratch: &mut [u8; PAGE_ROOM],
+    scratch: &mut [u8; SCRATCH_ROOM],
     piece: &mut [u8; PIECE_ROOM],
     out: &mut [u8; TEXT_ROOM],
 ) {

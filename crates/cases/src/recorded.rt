@@ -169,7 +169,7 @@ fn all_marks(line: &[u8], from: usize) -> bool {
     true
 }
 
-// `+` or `-`, a name, `@` and an offset with its line and column.
+// `+` or `-`, a name, `@` and an offset with its line and column, and inside a tab how far.
 fn is_mark(line: &[u8], from: usize, to: usize) -> bool {
     if line.len() <= from {
         return false;
@@ -181,7 +181,25 @@ fn is_mark(line: &[u8], from: usize, to: usize) -> bool {
     if mark == from + 1 {
         return false;
     }
-    is_place(line, mark + 1, to)
+    is_place(line, mark + 1, place_end(line, to))
+}
+
+// Where the place of a mark ends: before `~` and the columns of a tab that are passed, else where the mark does.
+fn place_end(line: &[u8], to: usize) -> usize {
+    if to < 2 {
+        return to;
+    }
+    let tab = to - 2;
+    if text::is_word(line, tab, to, b"~1") {
+        return tab;
+    }
+    if text::is_word(line, tab, to, b"~2") {
+        return tab;
+    }
+    if text::is_word(line, tab, to, b"~3") {
+        return tab;
+    }
+    to
 }
 
 fn is_sign(byte: u8) -> bool {

@@ -1,5 +1,5 @@
 -- Laws of events in words: what is written is read again, what stands elsewhere stays, and two writings are one.
-use Prim.Native.Nat.{ℕ, suc, _+_, _*_, _/_, _%_, _≤_}
+use Prim.Native.Nat.{ℕ, suc, _+_, _*_, _/_, _%_, _≤_, _<_}
 use native.Mathlib.Omega.{arith}
 use native.Mathlib.Nat.{add-zero}
 use mathlib.Core.Path.{_≡_, refl, sym, ap, ap₂, _∙_}
@@ -8,7 +8,11 @@ use mathlib.Core.List.{List, [], _∷_, _++_, append-assoc}
 use lib.Dec.{eqb}
 use lib.ListN.{length, getD, set, take, drop, length-append}
 use lib.Seq.{sets, sets-eq, length-sets, getD-append-add}
-use borrow.Author.Tests.{eq-eqb, ne-eqb}
+use Rattle.base.specs.If.{if_then_else_}
+use Rattle.base.specs.declared.InTab.{InTab}
+use Rattle.base.specs.declared.InTab.the-variants.{Outside, Past1, Past2, Past3}
+use Rattle.base.specs.Tab.{columnsOf}
+use Rattle.base.proofs.Tabs.{columns-few}
 use Rattle.base.specs.declared.Mark.{Mark}
 use Rattle.base.specs.declared.Mark.the-variants.{Enter, Exit, Leave}
 use Rattle.base.specs.declared.Marks.{Marks}
@@ -17,7 +21,7 @@ use Rattle.base.specs.Decide.{listOf, countOf}
 use Rattle.events.specs.declared.Point.{Point}
 use Rattle.events.specs.declared.Event.{Event}
 use Rattle.events.specs.Event.{point, event, pointOf, eventsAt}
-use Rattle.events.specs.Words.{width, kindWord, encode, written, markWord, eventIn, eventsIn}
+use Rattle.events.specs.Words.{width, kindWord, encode, written, markWord, inTab, eventIn, eventsIn}
 
 -- ---- counts
 
@@ -35,12 +39,12 @@ encode-long (e ∷ es) = omega (arith, encode-long es)
 
 pub encode-append : (a b : List Event) → encode (a ++ b) ≡ encode a ++ encode b
 encode-append [] b = refl
-encode-append (e ∷ a) b = ap (λ (l : List ℕ). kindWord (e .kind) (e .exit) ∷ e .offset ∷ e .line ∷ e .column ∷ l) (encode-append a b)
+encode-append (e ∷ a) b = ap (λ (l : List ℕ). kindWord (e .kind) (e .tab) (e .exit) ∷ e .offset ∷ e .line ∷ e .column ∷ l) (encode-append a b)
 
 -- ---- writing
 
 -- one run of stores after another
-sets-append : (a b words : List ℕ) (i : ℕ) → sets words i (a ++ b) ≡ sets (sets words i a) (i + length a) b
+pub sets-append : (a b words : List ℕ) (i : ℕ) → sets words i (a ++ b) ≡ sets (sets words i a) (i + length a) b
 sets-append [] b words i = rw add-zero
 sets-append (x ∷ a) b words i =
     let e : suc i + length a ≡ i + suc (length a) = omega arith in
@@ -85,44 +89,60 @@ stored-is words i first p =
     rw (e₁, e₂, e₃)
 
 pub one-written : (words : List ℕ) (k : ℕ) (here past : Point) (m : Mark) →
-    set (set (set (set words (k * 4) (markWord m)) (k * 4 + 1) (pointOf here past m .offset)) (k * 4 + 2) (pointOf here past m .line)) (k * 4 + 3) (pointOf here past m .column)
+    set (set (set (set words (k * 4) (markWord m (pointOf here past m .tab))) (k * 4 + 1) (pointOf here past m .offset)) (k * 4 + 2) (pointOf here past m .line)) (k * 4 + 3) (pointOf here past m .column)
     ≡ written words k (eventsAt here past (m ∷ []))
 unfolding stored written
-one-written words k here past (Enter kind) = stored-is words (k * 4) (kind * 2) here
-one-written words k here past (Exit kind) = stored-is words (k * 4) (kind * 2 + 1) here
-one-written words k here past (Leave kind) = stored-is words (k * 4) (kind * 2 + 1) past
+one-written words k here past (Enter kind) = stored-is words (k * 4) (kindWord kind (here .tab) false) here
+one-written words k here past (Exit kind) = stored-is words (k * 4) (kindWord kind (here .tab) true) here
+one-written words k here past (Leave kind) = stored-is words (k * 4) (kindWord kind (past .tab) true) past
 
 -- ---- reading what was written
 
-double : (k : ℕ) → (k * 2) / 2 ≡ k
-double k = omega arith
+-- the first word's parts: v columns of a tab, and x for an exit or none
+module _ (kind v x : ℕ) (h : v < 4) (g : x < 2) where
+  kind-part : (kind * 8 + v * 2 + x) / 8 ≡ kind
+  kind-part = omega arith
 
-double-one : (k : ℕ) → (k * 2 + 1) / 2 ≡ k
-double-one k = omega arith
+  tab-part : (kind * 8 + v * 2 + x) / 2 % 4 ≡ v
+  tab-part = omega arith
 
-even : (k : ℕ) → eqb (k * 2 % 2) 1 ≡ false
-even k = ne-eqb (k * 2 % 2) 1 (λ e. omega arith)
+  exit-part : (kind * 8 + v * 2 + x) % 2 ≡ x
+  exit-part = omega arith
 
-odd : (k : ℕ) → eqb ((k * 2 + 1) % 2) 1 ≡ true
-odd k = eq-eqb ((k * 2 + 1) % 2) 1 (omega arith)
+tab-again : (tab : InTab) → inTab (columnsOf tab) ≡ tab
+unfolding if_then_else_
+tab-again Outside = refl
+tab-again Past1 = refl
+tab-again Past2 = refl
+tab-again Past3 = refl
 
 -- the words of an event say it
-said : (kind : ℕ) (exit : Bool) (p : Point) → event (kindWord kind exit / 2) (eqb (kindWord kind exit % 2) 1) p ≡ event kind exit p
-said kind false p = rw (double, even)
-said kind true p = rw (double-one, odd)
+abbrev saidBack : ℕ → Point → Event
+saidBack first p = event (first / 8) (eqb (first % 2) 1) (point (p .offset) (p .line) (p .column) (inTab (first / 2 % 4)))
+
+said : (kind : ℕ) (exit : Bool) (p : Point) → saidBack (kindWord kind (p .tab) exit) p ≡ event kind exit p
+said kind false p =
+    let c = columnsOf (p .tab) in
+    let h = columns-few (p .tab) in
+    let e : kind * 8 + c * 2 ≡ kind * 8 + c * 2 + 0 = omega arith in
+    rw e (rw (kind-part kind c 0 h (omega arith), tab-part kind c 0 h (omega arith), exit-part kind c 0 h (omega arith), tab-again (p .tab)))
+said kind true p =
+    let c = columnsOf (p .tab) in
+    let h = columns-few (p .tab) in
+    rw (kind-part kind c 1 h (omega arith), tab-part kind c 1 h (omega arith), exit-part kind c 1 h (omega arith), tab-again (p .tab))
 
 -- event k, behind k others
-read-one : (before : List Event) (e : Event) (rest : List ℕ) → eventIn (encode before ++ kindWord (e .kind) (e .exit) ∷ e .offset ∷ e .line ∷ e .column ∷ rest) (length before) ≡ e
+read-one : (before : List Event) (e : Event) (rest : List ℕ) → eventIn (encode before ++ kindWord (e .kind) (e .tab) (e .exit) ∷ e .offset ∷ e .line ∷ e .column ∷ rest) (length before) ≡ e
 read-one before e rest =
-    let first = kindWord (e .kind) (e .exit) in
+    let first = kindWord (e .kind) (e .tab) (e .exit) in
     let four = first ∷ e .offset ∷ e .line ∷ e .column ∷ rest in
     let words = encode before ++ four in
     let l = encode-long before in
     let w : (j : ℕ) → getD words (length before * width + j) 0 ≡ getD four j 0 =
     λ j. ap (λ (i : ℕ). getD words i 0) (omega (arith, l)) ∙ getD-append-add (encode before) four j 0 in
     let p : getD words (length before * width) 0 ≡ first = ap (λ (i : ℕ). getD words i 0) (omega arith) ∙ w 0 in
-    ap (λ (f : ℕ). event (f / 2) (eqb (f % 2) 1) (point (getD words (length before * width + 1) 0) (getD words (length before * width + 2) 0) (getD words (length before * width + 3) 0))) p
-    ∙ rw (w 1, w 2, w 3) (said (e .kind) (e .exit) (point (e .offset) (e .line) (e .column)))
+    ap (λ (f : ℕ). saidBack f (point (getD words (length before * width + 1) 0) (getD words (length before * width + 2) 0) (getD words (length before * width + 3) 0) (e .tab))) p
+    ∙ rw (w 1, w 2, w 3) (said (e .kind) (e .exit) (point (e .offset) (e .line) (e .column) (e .tab)))
 
 read-from : (before es : List Event) (rest : List ℕ) → eventsIn (encode before ++ (encode es ++ rest)) (length before) (length es) ≡ es
 unfolding eventsIn

@@ -1,4 +1,5 @@
 // Events in lent words: the Rust's `events` vector. How wide an event is, and which words of a buffer are a place's, is known here alone.
+use base::InTab;
 use base::Mark;
 use base::Marks;
 ghost use mathlib.Core.Path.{_≡_};
@@ -6,8 +7,9 @@ ghost use mathlib.Core.List.{[], _∷_};
 ghost use Prim.Native.Nat.{_+_, _*_, _≤_};
 ghost use lib.ListN.{length, getD};
 ghost use Rattle.base.specs.Decide.{countOf, listOf};
+ghost use Rattle.base.specs.Tab.{columnsOf};
 ghost use Rattle.events.specs.Event.{pointOf, eventsAt};
-ghost use Rattle.events.specs.Words.{roomIn, markWord, written, eventIn};
+ghost use Rattle.events.specs.Words.{roomIn, markWord, written, inTab, eventIn};
 
 pub mod room;
 pub mod share;
@@ -16,11 +18,12 @@ pub mod span;
 // The words of an event.
 pub const WIDTH: usize = 4;
 
-// A place of the page, with its line and column: the Rust's `Point`.
+// A place of the page, with its line and column, and how far it is inside a tab: the Rust's `Point`.
 pub struct Point {
     pub offset: u32,
     pub line: u32,
     pub column: u32,
+    pub tab: InTab,
 }
 
 // An event: what is entered or left, and where.
@@ -30,6 +33,7 @@ pub struct Event {
     pub offset: u32,
     pub line: u32,
     pub column: u32,
+    pub tab: InTab,
 }
 
 // How many events fit in so many words.
@@ -61,6 +65,18 @@ fn word_at(words: &[u32], i: usize) -> u32
     if i < words.len() { words[i] } else { 0 }
 }
 
+// So many columns of a tab.
+fn in_tab(columns: u32) -> InTab
+    ensures { λ r. ⌜ r ≡ inTab columns ⌝ }
+{
+    match columns {
+        0 => InTab::Outside,
+        1 => InTab::Past1,
+        2 => InTab::Past2,
+        _ => InTab::Past3,
+    }
+}
+
 // Event k of a buffer. What stands past the end is read as 0.
 pub fn read(words: &[u32], k: usize) -> Event
     ensures { λ r. ⌜ r ≡ eventIn (now (words .entry)) k ⌝ }
@@ -72,6 +88,7 @@ pub fn read(words: &[u32], k: usize) -> Event
             offset: 0,
             line: 0,
             column: 0,
+            tab: InTab::Outside,
         };
     }
     let i = k * WIDTH;
@@ -79,12 +96,14 @@ pub fn read(words: &[u32], k: usize) -> Event
     let offset = word_at(words, i + 1);
     let line = word_at(words, i + 2);
     let column = word_at(words, i + 3);
+    let tab = in_tab(first / 2 % 4);
     Event {
-        kind: first / 2,
+        kind: first / 8,
         exit: first % 2 == 1,
         offset,
         line,
         column,
+        tab,
     }
 }
 
@@ -96,14 +115,27 @@ fn wide(kind: u8) -> u32
     kind as u32
 }
 
-// The first word of a mark's event.
-fn kind_word(mark: Mark) -> u32
-    ensures { λ r. ⌜ r ≡ markWord mark ⌝ }
+// Twice the columns that are passed of a tab.
+fn tab_bits(tab: InTab) -> u32
+    ensures { λ r. ⌜ (r ≡ columnsOf tab * 2) × (r ≤ 6) ⌝ }
 {
+    match tab {
+        InTab::Outside => 0,
+        InTab::Past1 => 2,
+        InTab::Past2 => 4,
+        InTab::Past3 => 6,
+    }
+}
+
+// The first word of a mark's event, so far inside a tab.
+fn kind_word(mark: Mark, tab: InTab) -> u32
+    ensures { λ r. ⌜ r ≡ markWord mark tab ⌝ }
+{
+    let bits = tab_bits(tab);
     match mark {
-        Mark::Enter(kind) => wide(kind) * 2,
-        Mark::Exit(kind) => wide(kind) * 2 + 1,
-        Mark::Leave(kind) => wide(kind) * 2 + 1,
+        Mark::Enter(kind) => wide(kind) * 8 + bits,
+        Mark::Exit(kind) => wide(kind) * 8 + bits + 1,
+        Mark::Leave(kind) => wide(kind) * 8 + bits + 1,
     }
 }
 
@@ -124,8 +156,9 @@ fn put_one(words: &mut [u32], k: usize, here: Point, past: Point, mark: Mark)
     ensures { λ _. ⌜ now (words .exit) ≡ written (now (words .entry)) k (eventsAt here past (mark ∷ [])) ⌝ }
 {
     let i = k * WIDTH;
-    let first = kind_word(mark);
     let point = point_of(here, past, mark);
+    let tab = point.tab;
+    let first = kind_word(mark, tab);
     words[i] = first;
     words[i + 1] = point.offset;
     words[i + 2] = point.line;

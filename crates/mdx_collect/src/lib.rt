@@ -2,6 +2,7 @@
 //
 // A verdict source that is asked again and again about a growing body, as at each `}` of `{}}}}`, gets a part of the page each time, found
 // without a look at the body. Only where a line prefix stands between two bytes of it is the body copied.
+use base::byte;
 use base::byte_at;
 use base::state;
 use scan::Scan;
@@ -9,8 +10,12 @@ ghost use mathlib.Core.Path.{_≡_};
 ghost use Prim.Native.Nat.{_-_, _≤_};
 ghost use lib.ListN.{length};
 ghost use lib.Seq.{sets};
-ghost use Rattle.body_places.specs.Body.{expressionPlaces, bytesAt};
+ghost use Rattle.base.specs.Page.{pageLimit};
+ghost use Rattle.body_places.specs.Body.{bytesOf, spaces, expressionCells};
 ghost use Rattle.mdx_collect.specs.Collect.{first, seam, onlyPrefix, asksIn, asked, collectedBy, copiedOf, collectOf, pieceOf, partOf};
+
+// What stands for the columns of a split tab.
+const SPACE: u8 = 32;
 
 // Where a body is: a part of the page, or the front of the scratch.
 pub enum Body {
@@ -58,13 +63,13 @@ fn only_prefix(page: &[u8], from: usize, to: usize) -> bool
     if 2 < to - from {
         return false;
     }
-    if !char_class::space_or_tab(byte_at(page, from)) {
+    if byte_at(page, from) != byte::SPACE {
         return false;
     }
     if to - from == 1 {
         return true;
     }
-    char_class::space_or_tab(byte_at(page, from + 1))
+    byte_at(page, from + 1) == byte::SPACE
 }
 
 // Whether a scan of the construct asks in this state: a verdict that is kept is not applied yet.
@@ -93,7 +98,8 @@ fn is_asked(scan: Scan, n: usize) -> bool
 
 // How many bytes the body between the two places has, its line prefixes left out.
 fn count(page: &[u8], from: usize, to: usize) -> usize
-    ensures { λ r. ⌜ r ≡ length (expressionPlaces (now (page .entry)) from to) ⌝ }
+    requires { ⌜ (to ≤ length (now page)) × (length (now page) ≤ pageLimit) ⌝ }
+    ensures { λ r. ⌜ r ≡ length (expressionCells (now (page .entry)) from to) ⌝ }
 {
     let mut at = from;
     let mut left: u8 = 0;
@@ -105,6 +111,12 @@ fn count(page: &[u8], from: usize, to: usize) -> usize
             at = at + 1;
             continue;
         }
+        if body_places::splits(b, left) {
+            n = n + body_places::spaces(left);
+            left = 0;
+            at = at + 1;
+            continue;
+        }
         n = n + 1;
         left = body_places::prefix_after(b);
         at = at + 1;
@@ -112,10 +124,22 @@ fn count(page: &[u8], from: usize, to: usize) -> usize
     n
 }
 
+// Spaces, up to a place of the scratch.
+fn fill(scratch: &mut [u8], from: usize, end: usize)
+    requires { ⌜ (from ≤ end) × (end ≤ length (now scratch)) ⌝ }
+    ensures { λ _. ⌜ now (scratch .exit) ≡ sets (now (scratch .entry)) from (spaces (end - from)) ⌝ }
+{
+    let mut at = from;
+    while at < end {
+        scratch[at] = SPACE;
+        at = at + 1;
+    }
+}
+
 // Those bytes, one after the other, to the front of the scratch.
 fn copy(page: &[u8], from: usize, end: usize, scratch: &mut [u8])
-    requires { ⌜ (end ≤ length (now page)) × (length (expressionPlaces (now page) from end) ≤ length (now scratch)) ⌝ }
-    ensures { λ _. ⌜ now (scratch .exit) ≡ sets (now (scratch .entry)) 0 (bytesAt (now (page .entry)) (expressionPlaces (now (page .entry)) from end)) ⌝ }
+    requires { ⌜ (end ≤ length (now page)) × (length (expressionCells (now page) from end) ≤ length (now scratch)) ⌝ }
+    ensures { λ _. ⌜ now (scratch .exit) ≡ sets (now (scratch .entry)) 0 (bytesOf (expressionCells (now (page .entry)) from end)) ⌝ }
 {
     let mut at = from;
     let mut left: u8 = 0;
@@ -124,6 +148,14 @@ fn copy(page: &[u8], from: usize, end: usize, scratch: &mut [u8])
         let b = byte_at(page, at);
         if body_places::in_prefix(b, left) {
             left = left - 1;
+            at = at + 1;
+            continue;
+        }
+        if body_places::splits(b, left) {
+            let next = n + body_places::spaces(left);
+            fill(scratch, n, next);
+            n = next;
+            left = 0;
             at = at + 1;
             continue;
         }
@@ -136,8 +168,8 @@ fn copy(page: &[u8], from: usize, end: usize, scratch: &mut [u8])
 
 // The body between the two places, copied to the scratch if it fits there.
 fn copied(page: &[u8], from: usize, to: usize, scratch: &mut [u8]) -> Body
-    requires { ⌜ to ≤ length (now page) ⌝ }
-    ensures { λ r. ⌜ collectedBy r (now (scratch .exit)) ≡ copiedOf (now (page .entry)) (expressionPlaces (now (page .entry)) from to) (now (scratch .entry)) ⌝ }
+    requires { ⌜ (to ≤ length (now page)) × (length (now page) ≤ pageLimit) ⌝ }
+    ensures { λ r. ⌜ collectedBy r (now (scratch .exit)) ≡ copiedOf (expressionCells (now (page .entry)) from to) (now (scratch .entry)) ⌝ }
 {
     let length = count(page, from, to);
     if scratch.len() < length {

@@ -8,13 +8,15 @@ use Prim.Native.Nat.{ℕ}
 use mathlib.Core.Bool.{Bool, _||_, _&&_}
 use lib.Dec.{ltb, eqb}
 use Rattle.base.specs.If.{if_then_else_}
-use Rattle.base.specs.Byte.{lineFeed, leftBrace, rightBrace, endOfPage}
+use Rattle.base.specs.Byte.{tab, lineFeed, space, leftBrace, rightBrace, endOfPage}
 use Rattle.base.specs.Kind.{expressionMarker, lineEnding, expressionData, linePrefix}
 use Rattle.base.specs.State.{nok, eof, verdictError, verdictEof, asking, mdxExpressionBefore, mdxExpressionInside, mdxExpressionEolAfter, mdxExpressionPrefix}
 use Rattle.base.specs.Decide.{eat, eatWith, retry, retryWith, refuse}
 use Rattle.base.specs.declared.Mark.the-variants.{Enter, Exit, Leave}
 use Rattle.base.specs.declared.Marks.the-variants.{Nothing, One, Two, Three}
-use Rattle.base.specs.declared.Effect.the-variants.{Deeper, Shallower, Open, PrefixBegins, PrefixGoesOn, PrefixEnds, Last, Fault}
+use Rattle.base.specs.declared.Effect.the-variants.{Deeper, Shallower, Open, PrefixBegins, PrefixGoesOn, PrefixEnds, PrefixInTab, Last, Fault}
+use Rattle.base.specs.declared.InTab.{InTab}
+use Rattle.base.specs.declared.InTab.the-variants.{Past1, Past2}
 use Rattle.base.specs.declared.Move.{Move}
 use Rattle.base.specs.declared.Verdict.{Verdict}
 use Rattle.base.specs.declared.Verdict.the-variants.{Fine, Unfinished, Wrong}
@@ -24,7 +26,7 @@ use Rattle.char_class.specs.Class.{isSpaceOrTab}
 abbrev pub inExpression : ℕ
 inExpression = 19
 
--- a line prefix has at most two tabs or spaces
+-- a line prefix has at most two columns
 abbrev pub prefixSize : ℕ
 prefixSize = 2
 
@@ -68,13 +70,23 @@ eolAfter b =
     if isSpaceOrTab b then retryWith mdxExpressionPrefix (One (Enter linePrefix)) PrefixBegins
     else retry mdxExpressionBefore Nothing
 
--- at most two tabs or spaces, `size` of which are passed, are a line prefix
+-- a space is one column of a line prefix, `size` of whose columns are passed
 abbrev pub prefixGoesOn : ℕ → ℕ → Bool
-prefixGoesOn b size = ltb size prefixSize && isSpaceOrTab b
+prefixGoesOn b size = ltb size prefixSize && eqb b space
 
+-- A line begins in column 1, so that a tab there reaches column 5, and one behind a space too: the prefix ends inside it. docs/SCOPE.md, 'Tabs'
+abbrev pub prefixInTab : ℕ → ℕ → Bool
+prefixInTab b size = ltb size prefixSize && eqb b tab
+
+-- of such a tab the prefix takes the columns that it has left
+abbrev pub taken : ℕ → InTab
+taken size = if eqb size 0 then Past2 else Past1
+
+-- the Rust runs `prefix` for each column; here a tab is one step in each state that it is met in
 abbrev pub prefix : ℕ → ℕ → Move
 prefix b size =
     if prefixGoesOn b size then eatWith mdxExpressionPrefix Nothing PrefixGoesOn
+    else if prefixInTab b size then retryWith mdxExpressionPrefix Nothing (PrefixInTab (taken size))
     else retryWith mdxExpressionBefore (One (Exit linePrefix)) PrefixEnds
 
 -- the verdict on the body before this `}`: Ok closes; unfinished takes the `}` as data; error answers at `place`

@@ -1,6 +1,7 @@
 // From `{` to its `}`: the states of `partial_mdx_expression.rs`. Each is handed the byte at its place and the registers that it
 // reads, and hands back one decision.
 use base::Effect;
+use base::InTab;
 use base::Mark;
 use base::Marks;
 use base::Move;
@@ -19,7 +20,7 @@ ghost use Rattle.mdx_expression.specs.Expression as expression;
 // The where-number of an expression that the page's end cuts off.
 const IN_EXPRESSION: u8 = 19;
 
-// A line prefix has at most two tabs or spaces.
+// A line prefix has at most two columns.
 const PREFIX_SIZE: u8 = 2;
 
 // A `}` that closes: no brace is open inside.
@@ -149,20 +150,39 @@ pub fn eol_after(b: u16) -> Move
     }
 }
 
-// Whether one more byte belongs to a line prefix that has `size` bytes.
+// Whether the byte is one more column of a line prefix that has `size`.
 fn prefix_goes_on(b: u16, size: u8) -> bool
     ensures { λ r. ⌜ r ≡ expression.prefixGoesOn b size ⌝ }
 {
     if PREFIX_SIZE <= size {
         return false;
     }
-    if char_class::space_or_tab(b) {
-        return true;
-    }
-    false
+    b == byte::SPACE
 }
 
-// In a line prefix, which is no part of the body.
+// Whether such a prefix ends inside a tab.
+fn prefix_in_tab(b: u16, size: u8) -> bool
+    ensures { λ r. ⌜ r ≡ expression.prefixInTab b size ⌝ }
+{
+    if PREFIX_SIZE <= size {
+        return false;
+    }
+    b == byte::TAB
+}
+
+// The columns of that tab which are the prefix's.
+fn taken(size: u8) -> InTab
+    ensures { λ r. ⌜ r ≡ expression.taken size ⌝ }
+{
+    if size == 0 {
+        InTab::Past2
+    } else {
+        InTab::Past1
+    }
+}
+
+// In a line prefix, which is no part of the body. Two columns of a tab are one step, and the tab stays where it is: the rest of it
+// is data.
 //
 //       | a {b +
 //     > |   c} d
@@ -176,6 +196,9 @@ pub fn prefix(b: u16, size: u8) -> Move
             Marks::Nothing,
             Effect::PrefixGoesOn,
         )
+    } else if prefix_in_tab(b, size) {
+        let effect = Effect::PrefixInTab(taken(size));
+        retry_with(state::MDX_EXPRESSION_PREFIX, Marks::Nothing, effect)
     } else {
         let marks = Marks::One(Mark::Exit(kind::LINE_PREFIX));
         retry_with(state::MDX_EXPRESSION_BEFORE, marks, Effect::PrefixEnds)

@@ -1,26 +1,32 @@
 // What must hold of a page before any scan: its length, its place in the lent bytes, and its text.
+use crate::line::Anchor;
 use crate::line::Line;
 use crate::line::Spot;
+use crate::line::anchor_past;
 use crate::line::first_line;
-use crate::line::next_line;
+use crate::line::line_from;
 use base::PAGE_LIMIT;
+use base::byte;
+use base::wide;
 ghost use mathlib.Core.Path.{_≡_};
-ghost use Prim.Native.Nat.{_+_, _-_, _≤_, _<_, _^_};
+ghost use mathlib.Core.Bool.{_||_};
+ghost use Prim.Native.Nat.{_+_, _≤_, _<_};
+ghost use lib.Dec.{eqb};
 ghost use lib.ListN.{length, getD, drop};
 ghost use mathlib.Core.List.{[], _∷_};
+ghost use Rattle.base.specs.Byte.{tab, lineFeed};
 ghost use Rattle.base.specs.If.{if_then_else_};
+ghost use Rattle.base.specs.Page.{pageLimit};
 ghost use Rattle.page.specs.Utf8.{holdsAt, begins, tail, sequence};
 ghost use Rattle.page.specs.declared.Checked.the-variants as checked;
-ghost use Rattle.page.specs.Line.{spot};
+ghost use Rattle.page.specs.Line.{spot, firstAnchor};
 ghost use Rattle.page.specs.Text.{readText};
 ghost use Rattle.page.specs.Page.{liesInside, checkedBy, pageCheck};
 
 pub mod line;
 
-// The byte that no page may hold, though UTF-8 has it; and the one that ends a line.
+// The byte that no page may hold, though UTF-8 has it.
 const CARRIAGE_RETURN: u8 = 13;
-
-const LINE_FEED: u8 = 10;
 
 // What a page is answered. The three refusals are the answers 2, 3 and 4 of the answer table.
 pub enum Checked {
@@ -65,47 +71,65 @@ pub fn check(bytes: &[u8], at: usize, length: usize, start: usize) -> Checked
     Checked::BadStart
 }
 
-// The text is at fault at a place of a line.
+// The text is at fault at a place with this line and column.
 fn bad_text(line: Line, at: usize) -> Checked
-    requires { ⌜ (line .first ≤ at) × (at < 2 ^ 63) ⌝ }
-    ensures { λ r. ⌜ r ≡ checked.BadText (spot at (line .number) (at - line .first + 1)) ⌝ }
+    ensures { λ r. ⌜ r ≡ checked.BadText (spot at (line .number) (line .column)) ⌝ }
 {
     let spot = Spot {
         place: at,
         line: line.number,
-        column: at - line.first + 1,
+        column: line.column,
     };
     Checked::BadText(spot)
 }
 
-// The line of the start, as far as it is known: a line that began before the start takes the place of the one before it.
-fn begun_by(line: Line, begun: Line, before: bool) -> Line
-    ensures { λ r. ⌜ r ≡ (if before then line else begun) ⌝ }
+// Whether a byte is another thing than one column: a line feed or a tab.
+fn shifts(b: u16) -> bool
+    ensures { λ r. ⌜ r ≡ (eqb b lineFeed || eqb b tab) ⌝ }
+{
+    if b == byte::LINE_FEED {
+        return true;
+    }
+    b == byte::TAB
+}
+
+// The anchor of the start, as far as it is known: one that stands no later than the start takes the place of the one before it.
+fn begun_by(anchor: Anchor, begun: Anchor, before: bool) -> Anchor
+    ensures { λ r. ⌜ r ≡ (if before then anchor else begun) ⌝ }
 {
     if before {
-        return line;
+        return anchor;
     }
     begun
 }
 
-// One pass over the page, which counts its lines too: `line` is that of the place, `begun` that of the start, once it is passed.
-// Most bytes of most pages are ASCII, so that is asked first.
+// The anchor at the page's first byte.
+fn first_anchor() -> Anchor
+    ensures { λ r. ⌜ r ≡ firstAnchor ⌝ }
+{
+    let line = first_line();
+    Anchor { line, from: 0 }
+}
+
+// One pass over the page, which counts its lines and columns too: `anchor` is the last before the place, `begun` the last before the
+// start, once that is passed. Most bytes of most pages are ASCII, so that is asked first.
 fn text(page: &[u8], start: usize) -> Checked
-    requires { ⌜ start ≤ length (now page) ⌝ }
+    requires { ⌜ (start ≤ length (now page)) × (length (now page) ≤ pageLimit) ⌝ }
     ensures { λ r. ⌜ r ≡ checkedBy (now (page .entry)) start (readText (now (page .entry))) ⌝ }
 {
     let mut at = 0;
-    let mut line = first_line();
-    let mut begun = first_line();
+    let mut anchor = first_anchor();
+    let mut begun = first_anchor();
     while at < page.len() {
         let byte = page[at];
         if byte < 0x80 {
             if byte == CARRIAGE_RETURN {
-                return bad_text(line, at);
+                return bad_text(line_from(anchor, at), at);
             }
-            if byte == LINE_FEED {
-                line = next_line(line, at);
-                begun = begun_by(line, begun, at < start);
+            let b = wide(byte);
+            if shifts(b) {
+                anchor = anchor_past(anchor, at, b);
+                begun = begun_by(anchor, begun, at < start);
                 at += 1;
                 continue;
             }
@@ -113,12 +137,12 @@ fn text(page: &[u8], start: usize) -> Checked
         } else {
             let size = size_at(page, at, byte);
             if size == 0 {
-                return bad_text(line, at);
+                return bad_text(line_from(anchor, at), at);
             }
             at += size;
         }
     }
-    Checked::Good(begun)
+    Checked::Good(line_from(begun, start))
 }
 
 // How many bytes the sequence takes that begins at the place, whose byte is `byte`; 0 where no

@@ -1,15 +1,16 @@
-// Lines and columns. A line is its number and the offset of its first byte, from which columns count.
+// Lines and columns: the Rust's `move_one`.
 use base::byte;
 use base::byte_at;
 ghost use mathlib.Core.Path.{_≡_};
-ghost use Prim.Native.Nat.{_<_, _^_};
-ghost use Rattle.page.specs.Line.{firstLine, nextLine, passedLine, lineAt};
+ghost use Prim.Native.Nat.{_+_, _-_, _≤_, _<_, _^_};
+ghost use lib.ListN.{length};
+ghost use Rattle.base.specs.Page.{pageLimit};
+ghost use Rattle.page.specs.Line.{columnBehind, firstLine, nextLine, passedLine, lineFrom, anchorPast, lineAt};
 
+// The line and the column of a place, both counted from 1.
 pub struct Line {
-    // Counted from 1.
     pub number: usize,
-    // Counted from the page's first byte.
-    pub first: usize,
+    pub column: usize,
 }
 
 // A place of the page, with its line and column.
@@ -19,49 +20,90 @@ pub struct Spot {
     pub column: usize,
 }
 
+// A place whose line and column are known, and behind which no line feed and no tab has come yet.
+pub struct Anchor {
+    pub line: Line,
+    pub from: usize,
+}
+
+// A tab goes on to the next stop of so many columns.
+const TAB_SIZE: usize = 4;
+
 // The page's first line.
 pub fn first_line() -> Line
     ensures { λ r. ⌜ r ≡ firstLine ⌝ }
 {
     Line {
         number: 1,
-        first: 0,
+        column: 1,
     }
 }
 
-// The line that begins behind the line feed at a place.
-pub(crate) fn next_line(line: Line, at: usize) -> Line
-    requires { ⌜ (line .number < 2 ^ 63) × (at < 2 ^ 63) ⌝ }
-    ensures { λ r. ⌜ r ≡ nextLine line at ⌝ }
+// The line that begins behind a line feed.
+fn next_line(line: Line) -> Line
+    requires { ⌜ line .number < 2 ^ 63 ⌝ }
+    ensures { λ r. ⌜ r ≡ nextLine line ⌝ }
 {
     Line {
         number: line.number + 1,
-        first: at + 1,
+        column: 1,
     }
 }
 
-// The line behind a byte: another one, where that is a line feed.
-fn passed(line: Line, at: usize, b: u16) -> Line
-    requires { ⌜ (line .number < 2 ^ 63) × (at < 2 ^ 63) ⌝ }
-    ensures { λ r. ⌜ r ≡ passedLine line at b ⌝ }
+// The column behind a byte that is no line feed.
+pub fn column_behind(column: usize, b: u16) -> usize
+    requires { ⌜ column < 2 ^ 63 ⌝ }
+    ensures { λ r. ⌜ r ≡ columnBehind column b ⌝ }
+{
+    if b == byte::TAB {
+        return (column + 3) / TAB_SIZE * TAB_SIZE + 1;
+    }
+    column + 1
+}
+
+// The line and the column behind a byte.
+fn passed(line: Line, b: u16) -> Line
+    requires { ⌜ (line .number < 2 ^ 63) × (line .column < 2 ^ 63) ⌝ }
+    ensures { λ r. ⌜ r ≡ passedLine line b ⌝ }
 {
     if b == byte::LINE_FEED {
-        return next_line(line, at);
+        return next_line(line);
     }
-    line
+    Line {
+        number: line.number,
+        column: column_behind(line.column, b),
+    }
 }
 
-// The line of a place, counted from the page's beginning. Past the page's end there is no other line.
+// The line and the column of a place behind an anchor.
+pub(crate) fn line_from(anchor: Anchor, at: usize) -> Line
+    requires { ⌜ (anchor .from ≤ at) × (anchor .line .column + (at - anchor .from) < 2 ^ 63) ⌝ }
+    ensures { λ r. ⌜ r ≡ lineFrom anchor at ⌝ }
+{
+    Line {
+        number: anchor.line.number,
+        column: anchor.line.column + (at - anchor.from),
+    }
+}
+
+// The next anchor, behind the byte at a place.
+pub(crate) fn anchor_past(anchor: Anchor, at: usize, b: u16) -> Anchor
+    requires { ⌜ (anchor .from ≤ at) × (anchor .line .column + (at - anchor .from) < 2 ^ 63) × (anchor .line .number < 2 ^ 63) × (at < 2 ^ 63) ⌝ }
+    ensures { λ r. ⌜ r ≡ anchorPast anchor at b ⌝ }
+{
+    let line = passed(line_from(anchor, at), b);
+    Anchor { line, from: at + 1 }
+}
+
+// The line and the column of a place, counted from the page's beginning; one past the page's end is the furthest.
 pub fn line_at(page: &[u8], place: usize) -> Line
+    requires { ⌜ (length (now page) ≤ pageLimit) × (place ≤ length (now page) + 1) ⌝ }
     ensures { λ r. ⌜ r ≡ lineAt (now (page .entry)) place ⌝ }
 {
     let mut line = first_line();
     let mut at = 0;
     while at < place {
-        if page.len() <= at {
-            return line;
-        }
-        line = passed(line, at, byte_at(page, at));
+        line = passed(line, byte_at(page, at));
         at += 1;
     }
     line

@@ -18,7 +18,7 @@ use Rattle.base.specs.declared.Marks.the-variants.{Nothing}
 use Rattle.tokenizer.specs.Moved.{oneMore, moved}
 use Rattle.scan.specs.declared.Scan.{Scan}
 use Rattle.scan.specs.Scan.{movedScan}
-use Rattle.scan.specs.Gliding.{Glides, GlidesTo, Glided, furthestPlace, countedOn, passedScan}
+use Rattle.scan.specs.Gliding.{Glides, GlidesTo, Glided, furthestPlace, countedOn, passedLines, passedScan}
 use Rattle.scan.proofs.Runs.{Going, glide, going-more}
 
 -- ---- how k steps are counted
@@ -109,27 +109,35 @@ module _ (page : List ℕ) (name quote at left : ℕ) (within : at ≤ length pa
 -- ---- k steps of a run
 
 -- one more byte, after k of them
-one-passed : (s : Scan) (k : ℕ) → s .tokenizer .at + k < s .tokenizer .job .length → passedScan s (suc k) ≡ movedScan (passedScan s k) (eat (s .tokenizer .state) Nothing) 0 (s .lines)
+one-passed : (s : Scan) (k : ℕ) → s .tokenizer .at + k < s .tokenizer .job .length → passedScan s (suc k) ≡ movedScan (passedScan s k) (eat (s .tokenizer .state) Nothing) 0 (passedLines (passedScan s k .lines) 1)
 unfolding countedOn moved if_then_else_
 one-passed s k h =
     let next : s .tokenizer .at + suc k ≡ s .tokenizer .at + k + 1 = omega arith in
     let same : s .used + 0 ≡ s .used = omega arith in
     rw (lt-ltb (s .tokenizer .at + k) (s .tokenizer .job .length) h, next, same)
 
+-- the first of them, which leaves a tab that the scan was inside
+first-passed : (s : Scan) → s .tokenizer .at < s .tokenizer .job .length → passedScan s 1 ≡ movedScan s (eat (s .tokenizer .state) Nothing) 0 (passedLines (s .lines) 1)
+unfolding countedOn moved if_then_else_
+first-passed s h =
+    let same : s .used + 0 ≡ s .used = omega arith in
+    rw (lt-ltb (s .tokenizer .at) (s .tokenizer .job .length) h, same)
+
 module _ {page words₀ : List ℕ} {allowance : ℕ} {s₀ : Scan} {words : List ℕ} {s : Scan} {left : ℕ} (g : Going page words₀ allowance s₀ words s left) (running : 32 ≤ s .tokenizer .state) where
-  many-on : (k : ℕ) → k ≤ left → s .tokenizer .at + k ≤ length page → ((i : ℕ) → i < k → Glides (s .tokenizer .state) (s .tokenizer .regs .quote) (byteAt page (s .tokenizer .at + i)) true)
-      → Going page words₀ allowance s₀ words (passedScan s k) (left - k)
+  many-on : (k : ℕ) → suc k ≤ left → s .tokenizer .at + suc k ≤ length page → ((i : ℕ) → i < suc k → Glides (s .tokenizer .state) (s .tokenizer .regs .quote) (byteAt page (s .tokenizer .at + i)) true)
+      → Going page words₀ allowance s₀ words (passedScan s (suc k)) (left - suc k)
   unfolding countedOn
   many-on zero h l each =
       let here : s .tokenizer .at + 0 ≡ s .tokenizer .at = omega arith in
-      let all : left - 0 ≡ left = omega arith in
-      rw (here, all) g
+      let e = glide page words s (byteAt page (s .tokenizer .at)) true (eat (s .tokenizer .state) Nothing) refl (rw here at (each 0 (omega arith))) refl refl (omega (arith, g .fit .long)) in
+      going-more g (omega arith) running (first-passed s (omega (arith, g .fit .long)) ∙ e .0) (e .1) refl
   many-on (suc k) h l each =
       let before = many-on k (omega arith) (omega arith) (λ i b. each i (omega (arith, b))) in
-      let e = glide page words (passedScan s k) (byteAt page (s .tokenizer .at + k)) true (eat (s .tokenizer .state) Nothing) refl (each k (omega arith)) refl refl in
-      let fewer : left - suc k ≡ left - k - 1 = omega arith in
-      rw fewer (going-more before (omega arith) running (one-passed s k (omega (arith, g .fit .long)) ∙ e .0) (e .1) refl)
+      let e = glide page words (passedScan s (suc k)) (byteAt page (s .tokenizer .at + suc k)) true (eat (s .tokenizer .state) Nothing) refl (each (suc k) (omega arith)) refl refl (omega (arith, g .fit .long)) in
+      let fewer : left - suc (suc k) ≡ left - suc k - 1 = omega arith in
+      rw fewer (going-more before (omega arith) running (one-passed s (suc k) (omega (arith, g .fit .long)) ∙ e .0) (e .1) refl)
 
   -- all that is glided over
   pub going-on : (k : ℕ) → Glided page (s .tokenizer .state) (s .tokenizer .regs .quote) (s .tokenizer .at) left k → Going page words₀ allowance s₀ words (passedScan s k) (left - k)
-  going-on k d = many-on k (d .enough) (d .onPage) (d .each)
+  going-on zero d = absurd (omega (arith, d .some))
+  going-on (suc k) d = many-on k (d .enough) (d .onPage) (d .each)

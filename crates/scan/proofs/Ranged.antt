@@ -7,14 +7,15 @@ use lib.Dec.{leb, ltb, eqb}
 use borrow.Author.Tests.{leb-true, le-leb, eqb-true}
 use Rattle.base.proofs.Choice.{both, and-yes}
 use Rattle.events.specs.Words.{roomIn}
+use Rattle.page.specs.declared.line.Line.{Line}
 use Rattle.tokenizer.specs.declared.Tokenizer.{Tokenizer}
 use Rattle.base.specs.Page.{pageLimit}
 use Rattle.tokenizer.specs.Ranges.{jobInRange, listed, placesInRange, numbersInRange, isReturn, regsInRange, inRange}
 use Rattle.scan.specs.declared.lines.Lines.{Lines}
 use Rattle.scan.specs.declared.Scan.{Scan}
-use Rattle.scan.specs.Lines.{highest, linesInRange}
+use Rattle.scan.specs.Lines.{highest, highestColumn, lineInRange, linesInRange}
 use Rattle.scan.specs.Scan.{stepBound}
-use Rattle.scan.specs.Inner.{Small, Fit}
+use Rattle.scan.specs.Inner.{Low, Small, Fit}
 use Rattle.scan.specs.Call.{scanInRange, runnable}
 
 -- the numbers that a step counts with
@@ -43,18 +44,28 @@ ranged t e =
       saved = leb-true (t .regs .saved) (t .job .length) (r₄ .0);
     }
 
--- the numbers of its lines
+-- the numbers of its lines and columns
+line-low : (line : Line) → lineInRange line ≡ true → Low line
+unfolding lineInRange
+line-low line e =
+    let a = both (leb (line .number) highest) (leb (line .column) highestColumn) e in
+    record { number = leb-true (line .number) highest (a .0); column = leb-true (line .column) highestColumn (a .1) }
+
+line-told : (line : Line) → Low line → lineInRange line ≡ true
+unfolding lineInRange
+line-told line h = and-yes _ _ (le-leb (line .number) highest (h .number)) (le-leb (line .column) highestColumn (h .column))
+
 pub lines-small : (l : Lines) → linesInRange l ≡ true → Small l
 unfolding linesInRange
 lines-small l e =
-    let a = both (leb (l .line .number) highest) _ e in
-    let b = both (leb (l .kept .number) highest) (leb (l .fault .number) highest) (a .1) in
-    (leb-true (l .line .number) highest (a .0), leb-true (l .kept .number) highest (b .0), leb-true (l .fault .number) highest (b .1))
+    let a = both (lineInRange (l .line)) _ e in
+    let b = both (lineInRange (l .kept)) (lineInRange (l .fault)) (a .1) in
+    (line-low (l .line) (a .0), line-low (l .kept) (b .0), line-low (l .fault) (b .1))
 
 pub lines-told : (l : Lines) → Small l → linesInRange l ≡ true
 unfolding linesInRange
 lines-told l h =
-    and-yes _ _ (le-leb (l .line .number) highest (h .0)) (and-yes _ _ (le-leb (l .kept .number) highest (h .1)) (le-leb (l .fault .number) highest (h .2)))
+    and-yes _ _ (line-told (l .line) (h .0)) (and-yes _ _ (line-told (l .kept) (h .1)) (line-told (l .fault) (h .2)))
 
 -- a scan that a run takes fits its page and its words
 pub fit-of : (s : Scan) (n w allowance : ℕ) → runnable s n w allowance ≡ true → Fit s n w

@@ -8,7 +8,7 @@ use mathlib.Core.List.{List, [], _++_}
 use lib.Dec.{eqb}
 use lib.ListN.{length}
 use borrow.Author.Tests.{lt-ltb, le-ltb}
-use Rattle.base.specs.Byte.{lineFeed}
+use Rattle.base.specs.Byte.{tab, lineFeed}
 use Rattle.base.specs.If.{if_then_else_}
 use Rattle.base.proofs.Choice.{case}
 use Rattle.base.specs.Page.{byteAt}
@@ -22,7 +22,7 @@ use Rattle.events.specs.Words.{written}
 use Rattle.events.proofs.Laws.{count-is, written-append, written-none}
 use Rattle.scan.specs.Scan.{choice, carriedOut, linesStep, movedScan, stepScan, stepEvents, runScan, runEvents, runWords}
 use Rattle.scan.specs.Inner.{Fit}
-use Rattle.scan.specs.Gliding.{Glides}
+use Rattle.scan.specs.Gliding.{Glides, countedOn, passedLines}
 use Rattle.scan.proofs.Steps.{none, fit-step}
 
 -- ---- how a run unfolds
@@ -73,18 +73,18 @@ run-keeps page P f (suc k) s p = case _ (rests (s .tokenizer .state)) (λ e. rw 
 
 -- ---- the short way is a step
 
--- the byte that is eaten is no line feed, so that the lines stay
-same-lines : (page : List ℕ) (s : Scan) (b : ℕ) (m : Move) → b ≡ byteAt page (s .tokenizer .at) → eqb b lineFeed ≡ false → m ≡ eat (s .tokenizer .state) Nothing → s .lines ≡ linesStep page s m
-unfolding if_then_else_
-same-lines page s b m e f d = rw (d, ← e, f)
+-- the byte that is eaten is no line feed and no tab, so that it is one column
+one-column : (page : List ℕ) (s : Scan) (b : ℕ) (m : Move) → b ≡ byteAt page (s .tokenizer .at) → s .tokenizer .at < s .tokenizer .job .length → eqb b lineFeed ≡ false → eqb b tab ≡ false → m ≡ eat (s .tokenizer .state) Nothing → passedLines (s .lines) 1 ≡ linesStep page s m
+unfolding countedOn if_then_else_
+one-column page s b m e l f g d = rw (d, lt-ltb (s .tokenizer .at) (s .tokenizer .job .length) l, ← e, f, g)
 
 pub glide : (page words : List ℕ) (s : Scan) (b : ℕ) (r : Bool) (m : Move) → b ≡ byteAt page (s .tokenizer .at) → Glides (s .tokenizer .state) (s .tokenizer .regs .quote) b r → r ≡ true
-    → m ≡ eat (s .tokenizer .state) Nothing → (movedScan s m 0 (s .lines) ≡ stepScan page s) × (words ≡ written words (s .used) (stepEvents page s))
+    → m ≡ eat (s .tokenizer .state) Nothing → s .tokenizer .at < s .tokenizer .job .length → (movedScan s m 0 (passedLines (s .lines) 1) ≡ stepScan page s) × (words ≡ written words (s .used) (stepEvents page s))
 unfolding choice
-glide page words s b r m e g y d =
+glide page words s b r m e g y d l =
     let c : m ≡ choice page s = d ∙ sym (ap (decision page (s .tokenizer)) (sym e) ∙ g .stays page (s .tokenizer) refl refl y) in
     let n = none page words s b e m c 0 (rw d) refl in
-    (ap (movedScan s m 0) (same-lines page s b m e (g .inLine y) d) ∙ n .0, n .1)
+    (ap (movedScan s m 0) (one-column page s b m e l (g .inLine y) (g .oneColumn y) d) ∙ n .0, n .1)
 
 -- ---- the loop
 

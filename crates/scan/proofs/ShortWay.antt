@@ -6,9 +6,9 @@ use mathlib.Core.Bool.{Bool, true, false, not}
 use mathlib.Core.List.{List}
 use lib.Dec.{eqb}
 use borrow.Author.Tests.{eqb-true, eqb-false, ne-eqb}
-use Rattle.base.specs.Byte.{lineFeed, leftBrace, rightBrace, endOfPage}
+use Rattle.base.specs.Byte.{tab, lineFeed, leftBrace, rightBrace, endOfPage}
 use Rattle.base.specs.If.{if_then_else_, among}
-use Rattle.base.proofs.Choice.{case, and-no, and-no′, or-no, or-cases, or-left, or-right, not-yes}
+use Rattle.base.proofs.Choice.{case, both, and-no, and-no′, or-no, or-cases, or-left, or-right, not-yes}
 use Rattle.base.specs.Range.{within}
 use Rattle.base.proofs.Ranges.{within-is, below, above}
 use Rattle.base.specs.Table.{find}
@@ -21,7 +21,7 @@ use Rattle.mdx_jsx_attribute.specs.Attribute.{quotedEnds}
 use Rattle.mdx_esm.specs.Esm.{lineEnds}
 use Rattle.tokenizer.specs.declared.Tokenizer.{Tokenizer}
 use Rattle.tokenizer.specs.Decision.{notAscii, takesAscii, refusesNotAscii, esmDecision, attributeDecision, tagDecision, expressionDecision, stateDecision, decision}
-use Rattle.scan.specs.Gliding.{plainData, insideAName}
+use Rattle.scan.specs.Gliding.{plainData, plainLine, plainValue, insideAName}
 
 -- the byte is eaten, and the state stays
 abbrev pub stay : ℕ → Move
@@ -100,48 +100,63 @@ module _ (page : List ℕ) (t : Tokenizer) (b : ℕ) where
   pub data-plain : t .state ≡ 34 → plainData b ≡ true → decision page t b ≡ eat 34 Nothing
   unfolding decision stateDecision expressionDecision find if_then_else_ within among
   data-plain h e =
-      let n = not-yes _ e in
+      let n = not-yes _ (both (not (eqb b tab)) _ e .1) in
       let f = or-right (eqb b lineFeed) _ n in
       let g = or-right (eqb b leftBrace) _ f in
       let k = or-right (eqb b rightBrace) _ g in
       rw h (simp (and-no′ (notAscii b) (takesAscii 34) refl, or-left (eqb b endOfPage) _ k, or-left (eqb b lineFeed) _ n, or-left (eqb b leftBrace) _ f, or-left (eqb b rightBrace) _ g))
 
-  pub quoted : t .state ≡ 39 → not (quotedEnds b (t .regs .quote)) ≡ true → decision page t b ≡ eat 39 Nothing
+  pub quoted : t .state ≡ 39 → plainValue b (t .regs .quote) ≡ true → decision page t b ≡ eat 39 Nothing
   unfolding decision stateDecision tagDecision attributeDecision find if_then_else_ within
-  quoted h e = rw h (simp (and-no′ (notAscii b) (takesAscii 39) refl, not-yes (quotedEnds b (t .regs .quote)) e))
+  quoted h e = rw h (simp (and-no′ (notAscii b) (takesAscii 39) refl, not-yes (quotedEnds b (t .regs .quote)) (both (not (eqb b tab)) _ e .1)))
 
-  pub lines : t .state ≡ 70 → not (lineEnds b) ≡ true → decision page t b ≡ eat 70 Nothing
+  pub lines : t .state ≡ 70 → plainLine b ≡ true → decision page t b ≡ eat 70 Nothing
   unfolding decision stateDecision esmDecision find if_then_else_ within
-  lines h e = rw h (simp (and-no′ (notAscii b) (takesAscii 70) refl, not-yes (lineEnds b) e))
+  lines h e = rw h (simp (and-no′ (notAscii b) (takesAscii 70) refl, not-yes (lineEnds b) (both (not (eqb b tab)) _ e .1)))
 
 -- ---- no line feed is passed
 
 pub data-in-line : (b : ℕ) → plainData b ≡ true → eqb b lineFeed ≡ false
 unfolding among
-data-in-line b e = or-left (eqb b lineFeed) _ (not-yes _ e)
+data-in-line b e = or-left (eqb b lineFeed) _ (not-yes _ (both (not (eqb b tab)) _ e .1))
 
-pub line-in-line : (b : ℕ) → not (lineEnds b) ≡ true → eqb b lineFeed ≡ false
+pub line-in-line : (b : ℕ) → plainLine b ≡ true → eqb b lineFeed ≡ false
 unfolding among
-line-in-line b e = or-left (eqb b lineFeed) _ (not-yes (lineEnds b) e)
+line-in-line b e = or-left (eqb b lineFeed) _ (not-yes (lineEnds b) (both (not (eqb b tab)) _ e .1))
 
-pub quoted-in-line : (b quote : ℕ) → not (quotedEnds b quote) ≡ true → eqb b lineFeed ≡ false
-quoted-in-line b quote e = or-left (eqb b lineFeed) _ (or-right (eqb b quote) _ (not-yes (quotedEnds b quote) e))
+pub quoted-in-line : (b quote : ℕ) → plainValue b quote ≡ true → eqb b lineFeed ≡ false
+quoted-in-line b quote e = or-left (eqb b lineFeed) _ (or-right (eqb b quote) _ (not-yes (quotedEnds b quote) (both (not (eqb b tab)) _ e .1)))
 
 pub name-in-line : (b : ℕ) → isIdCont b ≡ true → eqb b lineFeed ≡ false
 name-in-line b e = ne-eqb b lineFeed (λ q. let r = id-cont-range b e in omega (arith, q))
+
+-- ---- nor a tab
+
+pub data-no-tab : (b : ℕ) → plainData b ≡ true → eqb b tab ≡ false
+data-no-tab b e = not-yes (eqb b tab) (both (not (eqb b tab)) _ e .0)
+
+pub line-no-tab : (b : ℕ) → plainLine b ≡ true → eqb b tab ≡ false
+line-no-tab b e = not-yes (eqb b tab) (both (not (eqb b tab)) _ e .0)
+
+pub quoted-no-tab : (b quote : ℕ) → plainValue b quote ≡ true → eqb b tab ≡ false
+quoted-no-tab b quote e = not-yes (eqb b tab) (both (not (eqb b tab)) _ e .0)
+
+pub name-no-tab : (b : ℕ) → isIdCont b ≡ true → eqb b tab ≡ false
+name-no-tab b e = ne-eqb b tab (λ q. let r = id-cont-range b e in omega (arith, q))
 
 -- ---- nor the page's end
 
 pub data-on-page : (b : ℕ) → plainData b ≡ true → eqb b endOfPage ≡ false
 unfolding among
-data-on-page b e = or-left (eqb b endOfPage) _ (or-right (eqb b rightBrace) _ (or-right (eqb b leftBrace) _ (or-right (eqb b lineFeed) _ (not-yes _ e))))
+data-on-page b e =
+    or-left (eqb b endOfPage) _ (or-right (eqb b rightBrace) _ (or-right (eqb b leftBrace) _ (or-right (eqb b lineFeed) _ (not-yes _ (both (not (eqb b tab)) _ e .1)))))
 
-pub line-on-page : (b : ℕ) → not (lineEnds b) ≡ true → eqb b endOfPage ≡ false
+pub line-on-page : (b : ℕ) → plainLine b ≡ true → eqb b endOfPage ≡ false
 unfolding among
-line-on-page b e = or-left (eqb b endOfPage) _ (or-right (eqb b lineFeed) _ (not-yes (lineEnds b) e))
+line-on-page b e = or-left (eqb b endOfPage) _ (or-right (eqb b lineFeed) _ (not-yes (lineEnds b) (both (not (eqb b tab)) _ e .1)))
 
-pub quoted-on-page : (b quote : ℕ) → not (quotedEnds b quote) ≡ true → eqb b endOfPage ≡ false
-quoted-on-page b quote e = or-right (eqb b lineFeed) _ (or-right (eqb b quote) _ (not-yes (quotedEnds b quote) e))
+pub quoted-on-page : (b quote : ℕ) → plainValue b quote ≡ true → eqb b endOfPage ≡ false
+quoted-on-page b quote e = or-right (eqb b lineFeed) _ (or-right (eqb b quote) _ (not-yes (quotedEnds b quote) (both (not (eqb b tab)) _ e .1)))
 
 pub name-on-page : (b : ℕ) → isIdCont b ≡ true → eqb b endOfPage ≡ false
 name-on-page b e = ne-eqb b endOfPage (λ q. let r = id-cont-range b e in omega (arith, q))

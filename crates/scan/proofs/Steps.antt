@@ -1,9 +1,7 @@
 -- How the code's three ways of a step are the definition's one: no events, no room, events that fit. And what a step keeps.
 use Prim.Native.Nat.{ℕ, _+_, _-_, _≤_, _<_, _^_}
 use native.Mathlib.Omega.{arith}
-use native.Mathlib.Decide.{decLe}
-use mathlib.Core.Path.{_≡_, refl, sym, ap, _∙_}
-use mathlib.Core.Logic.{by-cases}
+use mathlib.Core.Path.{_≡_, refl, sym, _∙_}
 use mathlib.Core.Bool.{Bool, true, false}
 use mathlib.Core.List.{List, []}
 use lib.ListN.{length}
@@ -11,27 +9,28 @@ use lib.Dec.{ltb, eqb}
 use borrow.Author.Tests.{ltb-true, ltb-false, le-ltb}
 use Rattle.base.specs.If.{if_then_else_}
 use Rattle.base.proofs.Choice.{if-yes, if-no, if-is}
-use Rattle.base.specs.Byte.{lineFeed}
+use Rattle.base.specs.Byte.{tab, lineFeed}
 use Rattle.base.specs.Page.{pageLimit, byteAt}
 use Rattle.base.specs.State.{full}
 use Rattle.base.specs.Decide.{eat, retry, listOf, countOf}
 use Rattle.base.specs.declared.Marks.{Marks}
 use Rattle.base.specs.declared.Marks.the-variants.{Nothing, One, Two, Three, Four}
+use Rattle.base.specs.declared.InTab.{InTab}
 use Rattle.base.specs.declared.Effect.{Effect}
-use Rattle.base.specs.declared.Effect.the-variants.{Keep, Deeper, Shallower, Open, PrefixBegins, PrefixGoesOn, PrefixEnds, Quote, Return, Save, Restore, Last, Fault, Refuse}
+use Rattle.base.specs.declared.Effect.the-variants.{Keep, Deeper, Shallower, Open, PrefixBegins, PrefixGoesOn, PrefixEnds, PrefixInTab, Quote, Return, Save, Restore, Last, Fault, Refuse}
 use Rattle.base.specs.declared.Move.{Move}
 use Rattle.page.specs.declared.line.Line.{Line}
-use Rattle.page.specs.Line.{lineOf, lineAt}
-use Rattle.page.proofs.Lines.{line-within, line-end}
+use Rattle.page.specs.Line.{tabStop, lineAt}
+use Rattle.page.proofs.Lines.{line-within, column-within}
 use Rattle.events.specs.Words.{roomIn, written}
 use Rattle.events.proofs.Laws.{written-none}
 use Rattle.tokenizer.specs.declared.Regs.{Regs}
 use Rattle.tokenizer.specs.Moved.{oneMore, nextPlace, placeAfter, changed, moved}
 use Rattle.scan.specs.declared.lines.Lines.{Lines}
 use Rattle.scan.specs.declared.Scan.{Scan}
-use Rattle.scan.specs.Lines.{highest, linePast, linesAfter}
-use Rattle.scan.specs.Scan.{choice, lacks, carriedOut, lineNext, linesStep, marksAt, movedScan, stepScan, stepEvents}
-use Rattle.scan.specs.Inner.{Small, Fit, Counts}
+use Rattle.scan.specs.Lines.{highest, highestColumn, columnPast, linePast, tabNext, withinEnd, linesAfter}
+use Rattle.scan.specs.Scan.{choice, lacks, carriedOut, passes, lineNext, linesStep, marksAt, movedScan, stepScan, stepEvents}
+use Rattle.scan.specs.Inner.{Low, Small, Fit, Counts}
 
 -- ---- events
 
@@ -94,6 +93,7 @@ module _ (n at next saved : ℕ) (a : at ≤ n) (x : next ≤ n) (v : saved ≤ 
   place-within PrefixBegins = x
   place-within PrefixGoesOn = x
   place-within PrefixEnds = x
+  place-within (PrefixInTab t) = x
   place-within (Quote b) = x
   place-within (Return name) = x
   place-within Save = x
@@ -110,6 +110,7 @@ saved-within n at next r a v Open = v
 saved-within n at next r a v PrefixBegins = v
 saved-within n at next r a v PrefixGoesOn = v
 saved-within n at next r a v PrefixEnds = v
+saved-within n at next r a v (PrefixInTab t) = v
 saved-within n at next r a v (Quote b) = v
 saved-within n at next r a v (Return name) = v
 saved-within n at next r a v Save = a
@@ -122,27 +123,36 @@ saved-within n at next r a v (Refuse w k) = v
 one-more-small : (n limit : ℕ) → n ≤ limit → oneMore n limit ≤ limit
 one-more-small n limit h = if-is ℕ (λ (k : ℕ). k ≤ limit) (ltb n limit) (n + 1) n (λ e. omega (arith, ltb-true n limit e)) (λ e. h)
 
-pub past-small : (line : Line) (at b : ℕ) → line .number ≤ highest → linePast line at b .number ≤ highest
-past-small line at b h =
-    if-is Line (λ (l : Line). l .number ≤ highest) (eqb b lineFeed) _ line (λ e. one-more-small (line .number) highest h) (λ e. h)
+-- and so do those of columns
+stop-low : (c : ℕ) → c < highestColumn → tabStop c ≤ highestColumn
+stop-low c h = omega arith
 
-pub next-small : (page : List ℕ) (s : Scan) (m : Move) → s .lines .line .number ≤ highest → lineNext page s m .number ≤ highest
-next-small page s m h =
-    if-is Line (λ (l : Line). l .number ≤ highest) (m .eat) _ (s .lines .line)
-    (λ e. past-small (s .lines .line) (s .tokenizer .at) (byteAt page (s .tokenizer .at)) h) (λ e. h)
+column-low : (c b : ℕ) → c ≤ highestColumn → columnPast c b ≤ highestColumn
+column-low c b h =
+    if-is ℕ (λ (k : ℕ). k ≤ highestColumn) (ltb c highestColumn) _ c
+    (λ e.
+    let l = ltb-true c highestColumn e in
+    if-is ℕ (λ (k : ℕ). k ≤ highestColumn) (eqb b tab) (tabStop c) (c + 1) (λ f. stop-low c l) (λ f. omega arith))
+    (λ e. h)
 
--- no line of a page has a higher number than the page's end
-at-end : (page : List ℕ) (place : ℕ) → length page ≤ pageLimit → lineOf page place ≤ highest
-at-end page place h =
-    by-cases (decLe place (length page))
-    (λ (l : place ≤ length page). omega (arith, line-within page place))
-    (λ l.
-    let more : length page + (place - length page) ≡ place = omega (arith, l) in
-    let same = ap (λ (x : Line). x .number) (sym (line-end page (place - length page)) ∙ ap (lineAt page) more) in
-    omega (arith, line-within page (length page), same))
+pub past-low : (line : Line) (b : ℕ) → Low line → Low (linePast line b)
+past-low line b h =
+    if-is Line Low (eqb b lineFeed) _ _
+    (λ e. record { number = one-more-small (line .number) highest (h .number); column = omega arith })
+    (λ e. record { number = h .number; column = column-low (line .column) b (h .column) })
 
-module _ (page : List ℕ) (short : length page ≤ pageLimit) (next : Line) (l : Lines) (x : next .number ≤ highest) (h : Small l) where
-  pub after-small : (e : Effect) → Small (linesAfter page e next l)
+next-low : (page : List ℕ) (s : Scan) (m : Move) → Low (s .lines .line) → Low (lineNext page s m)
+next-low page s m h = if-is Line Low (passes s m) _ (s .lines .line) (λ e. past-low (s .lines .line) (byteAt page (s .tokenizer .at)) h) (λ e. h)
+
+-- no line of a page has a higher number than the page's end, and no column
+end-low : (page : List ℕ) (place : ℕ) → length page ≤ pageLimit → Low (lineAt page (withinEnd page place))
+end-low page place h =
+    let l : withinEnd page place ≤ length page + 1 =
+    if-is ℕ (λ (k : ℕ). k ≤ length page + 1) (ltb place (length page + 1)) place (length page + 1) (λ e. omega (arith, ltb-true place (length page + 1) e)) (λ e. omega arith) in
+    record { number = omega (arith, l, line-within page (withinEnd page place)); column = omega (arith, l, column-within page (withinEnd page place)) }
+
+module _ (page : List ℕ) (short : length page ≤ pageLimit) (next : Line) (t : InTab) (l : Lines) (x : Low next) (h : Small l) where
+  pub after-small : (e : Effect) → Small (linesAfter page e next t l)
   after-small Keep = (x, h .1, h .2)
   after-small Deeper = (x, h .1, h .2)
   after-small Shallower = (x, h .1, h .2)
@@ -150,16 +160,17 @@ module _ (page : List ℕ) (short : length page ≤ pageLimit) (next : Line) (l 
   after-small PrefixBegins = (x, h .1, h .2)
   after-small PrefixGoesOn = (x, h .1, h .2)
   after-small PrefixEnds = (x, h .1, h .2)
+  after-small (PrefixInTab passed) = (x, h .1, h .2)
   after-small (Quote b) = (x, h .1, h .2)
   after-small (Return name) = (x, h .1, h .2)
   after-small Save = (x, h .0, h .2)
   after-small Restore = (h .1, h .1, h .2)
   after-small (Last k) = (x, h .1, h .2)
-  after-small (Fault k p) = (x, h .1, at-end page p short)
+  after-small (Fault k p) = (x, h .1, end-low page p short)
   after-small (Refuse w k) = (x, h .1, h .2)
 
 pub step-small : (page : List ℕ) (s : Scan) (m : Move) → length page ≤ pageLimit → Small (s .lines) → Small (linesStep page s m)
-step-small page s m short h = after-small page short (lineNext page s m) (s .lines) (next-small page s m (h .0)) h (m .effect)
+step-small page s m short h = after-small page short (lineNext page s m) (tabNext (m .eat) (s .lines .tab)) (s .lines) (next-low page s m (h .0)) h (m .effect)
 
 -- whatever is decided, the scan fits its page and its words after it, if its events do
 pub fit-moved : (s : Scan) (n w : ℕ) (m : Move) (k : ℕ) (lines : Lines) → Fit s n w → s .used + k ≤ roomIn w → Small lines → Fit (movedScan s m k lines) n w

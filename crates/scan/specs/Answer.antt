@@ -11,6 +11,7 @@ use Rattle.base.specs.Table.{find}
 use Rattle.base.specs.State as state
 use Rattle.base.specs.State.{firstRunning}
 use Rattle.base.specs.Number as number
+use Rattle.base.specs.declared.InTab.the-variants.{Outside}
 use Rattle.page.specs.declared.line.Spot.{Spot}
 use Rattle.scan.specs.declared.Tally.{Tally}
 use Rattle.scan.specs.declared.Answer.{Answer}
@@ -78,10 +79,10 @@ tallyOf s = record { events = s .used; steps = s .steps }
 
 -- the scan's place, and where a verdict found fault
 abbrev pub here : Scan → Spot
-here s = spotIn (s .lines .line) (s .tokenizer .at)
+here s = spotIn (s .lines .line) (s .lines .tab) (s .tokenizer .at)
 
 abbrev pub atFault : Scan → Spot
-atFault s = spotIn (s .lines .fault) (s .tokenizer .regs .fault)
+atFault s = spotIn (s .lines .fault) Outside (s .tokenizer .regs .fault)
 
 -- where a scan rests, by the number of its state, which is the answer's: at the construct's end, at no construct, at a question
 abbrev pub endAnswers : Scan → List (ℕ × Said)

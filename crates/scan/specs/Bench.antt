@@ -12,7 +12,7 @@ use Rattle.base.specs.Page.{byteAt, afterLineFeed}
 use Rattle.base.specs.declared.Verdict.{Verdict}
 use Rattle.base.specs.declared.Verdict.the-variants.{Fine, Unfinished}
 use Rattle.char_class.specs.Class.{isWhitespace, isSpaceOrTab, isIdStart, isIdCont}
-use Rattle.page.specs.Line.{lineOf, firstOf}
+use Rattle.page.specs.Line.{lineOf, columnOf}
 use Rattle.mdx_esm.specs.Word.{spells, isWord}
 use Rattle.tokenizer.specs.Decision.{esmDecision, attributeDecision, tagDecision, expressionDecision, stateDecision, decision}
 use Rattle.tokenizer.specs.Moved.{moved}
@@ -145,6 +145,6 @@ unfolding
     freshIn
     givenScan
     lineOf
-    firstOf
+    columnOf
     if_then_else_
 bench-cases = refl

@@ -1,36 +1,49 @@
 -- What the short way asks and gives. No promise to a user of the library cites these.
 use Prim.Native.Nat.{ℕ, zero, suc, _+_, _-_, _≤_, _<_}
 use mathlib.Core.Path.{_≡_}
-use mathlib.Core.Bool.{Bool, true, false, not}
+use mathlib.Core.Bool.{Bool, true, false, not, _&&_}
 use mathlib.Core.List.{List, [], _∷_}
 use lib.Dec.{eqb, ltb}
 use lib.ListN.{length}
-use Rattle.base.specs.Byte.{lineFeed, leftBrace, rightBrace, endOfPage}
+use Rattle.base.specs.Byte.{tab, lineFeed, leftBrace, rightBrace, endOfPage}
 use Rattle.base.specs.If.{if_then_else_, among}
 use Rattle.base.specs.Page.{byteAt}
 use Rattle.base.specs.Range.{within}
 use Rattle.base.specs.State.{mdxJsxPrimaryName, mdxJsxAttributeLocalName}
 use Rattle.base.specs.Decide.{eat}
+use Rattle.base.specs.declared.InTab.the-variants.{Outside}
 use Rattle.base.specs.declared.Marks.the-variants.{Nothing}
+use Rattle.mdx_esm.specs.Esm.{lineEnds}
+use Rattle.mdx_jsx_attribute.specs.Attribute.{quotedEnds}
 use Rattle.tokenizer.specs.declared.Tokenizer.{Tokenizer}
 use Rattle.tokenizer.specs.Decision.{decision}
 use Rattle.tokenizer.specs.Moved.{oneMore}
+use Rattle.scan.specs.declared.lines.Lines.{Lines}
 use Rattle.scan.specs.declared.Scan.{Scan}
+use Rattle.scan.specs.Lines.{highestColumn, linesOf}
 use Rattle.scan.specs.Scan.{stepBound}
 
--- what neither ends nor nests an expression
+-- what neither ends nor nests an expression, and is one column
 abbrev pub plainData : ℕ → Bool
-plainData b = not (among (lineFeed ∷ leftBrace ∷ rightBrace ∷ endOfPage ∷ []) b)
+plainData b = not (eqb b tab) && not (among (lineFeed ∷ leftBrace ∷ rightBrace ∷ endOfPage ∷ []) b)
+
+-- the same in a line of an ESM block, and in a quoted value
+abbrev pub plainLine : ℕ → Bool
+plainLine b = not (eqb b tab) && not (lineEnds b)
+
+abbrev pub plainValue : ℕ → ℕ → Bool
+plainValue b quote = not (eqb b tab) && not (quotedEnds b quote)
 
 -- one of the five states inside a name
 abbrev pub insideAName : ℕ → Bool
 insideAName name = within mdxJsxPrimaryName mdxJsxAttributeLocalName name
 
 -- where the test r holds of a state's number, a quote and a byte, the byte is one of the page, and the state eats it and stays, with no
--- event, in the same line
+-- event, in the same line and one column further
 pub record Glides (name quote b : ℕ) (r : Bool) : Type 0 where
   pub stays : (page : List ℕ) (t : Tokenizer) → t .state ≡ name → t .regs .quote ≡ quote → r ≡ true → decision page t b ≡ eat name Nothing
   pub inLine : r ≡ true → eqb b lineFeed ≡ false
+  pub oneColumn : r ≡ true → eqb b tab ≡ false
   pub onPage : r ≡ true → eqb b endOfPage ≡ false
 
 -- the same of every byte from one place to another, which is no further than a limit
@@ -55,13 +68,17 @@ unfoldable pub countedOn : ℕ → ℕ → ℕ → ℕ
 countedOn steps bound zero = steps
 countedOn steps bound (suc k) = oneMore (countedOn steps bound k) bound
 
--- a scan after k steps that did no more than pass a byte each
+-- the lines k columns further
+abbrev pub passedLines : Lines → ℕ → Lines
+passedLines l k = linesOf (record { number = l .line .number; column = countedOn (l .line .column) highestColumn k }) Outside (l .kept) (l .fault)
+
+-- a scan after k steps, one at least, that did no more than pass a byte each
 abbrev pub passedScan : Scan → ℕ → Scan
 passedScan s k =
     let t = s .tokenizer in
     record {
       tokenizer = record { job = t .job; state = t .state; at = t .at + k; regs = t .regs; heard = t .heard };
-      lines = s .lines;
+      lines = passedLines (s .lines) k;
       used = s .used;
       steps = countedOn (s .steps) (stepBound (t .job)) k;
     }

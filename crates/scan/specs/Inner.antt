@@ -5,13 +5,18 @@ use mathlib.Core.List.{List}
 use lib.ListN.{length}
 use Rattle.base.specs.Page.{pageLimit, byteAt}
 use Rattle.events.specs.Words.{roomIn}
+use Rattle.page.specs.declared.line.Line.{Line}
 use Rattle.scan.specs.declared.lines.Lines.{Lines}
 use Rattle.scan.specs.declared.Scan.{Scan}
-use Rattle.scan.specs.Lines.{highest}
+use Rattle.scan.specs.Lines.{highest, highestColumn}
 
--- no line has a higher number than a page's lines have
+-- no line and no column has a higher number than a page's have
+pub record Low (line : Line) : Type 0 where
+  pub number : line .number ≤ highest
+  pub column : line .column ≤ highestColumn
+
 abbrev pub Small : Lines → Type 0
-Small l = (l .line .number ≤ highest) × (l .kept .number ≤ highest) × (l .fault .number ≤ highest)
+Small l = Low (l .line) × Low (l .kept) × Low (l .fault)
 
 -- a scan over a page of n bytes and w lent words
 pub record Fit (s : Scan) (n w : ℕ) : Type 0 where

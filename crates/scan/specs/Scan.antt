@@ -3,13 +3,14 @@
 -- docs/SCOPE.md, 'Steps': "One call of one state is a step; so is applying a verdict." 'The answer table': "A step writes all its events
 -- or none; full room wins over what that step would have answered."
 use Prim.Native.Nat.{ℕ, zero, suc, _+_, _-_, _*_}
-use mathlib.Core.Bool.{Bool}
+use mathlib.Core.Bool.{Bool, _&&_}
 use mathlib.Core.List.{List, [], _++_}
 use lib.Dec.{ltb}
 use Rattle.base.specs.If.{if_then_else_}
 use Rattle.base.specs.Page.{byteAt}
 use Rattle.base.specs.State.{full, rests}
 use Rattle.base.specs.Decide.{retry, listOf, countOf}
+use Rattle.base.specs.declared.InTab.the-variants.{Outside}
 use Rattle.base.specs.declared.Marks.the-variants.{Nothing}
 use Rattle.base.specs.declared.Mark.{Mark}
 use Rattle.base.specs.declared.Move.{Move}
@@ -22,7 +23,7 @@ use Rattle.tokenizer.specs.Decision.{decision}
 use Rattle.tokenizer.specs.Moved.{oneMore, moved}
 use Rattle.scan.specs.declared.lines.Lines.{Lines}
 use Rattle.scan.specs.declared.Scan.{Scan}
-use Rattle.scan.specs.Lines.{linePast, pointIn, linesAfter}
+use Rattle.scan.specs.Lines.{linePast, pointIn, tabNext, linesAfter}
 
 -- "A run over n bytes takes at most 8(n+1) steps", n counting from the start to the page's end
 abbrev pub stepBound : Job → ℕ
@@ -44,19 +45,23 @@ lacks s m = ltb (roomIn (s .tokenizer .job .words) - s .used) (countOf (m .marks
 abbrev pub carriedOut : Scan → Move → Move
 carriedOut s m = if lacks s m then retry full Nothing else m
 
+-- a byte is eaten, and there is one
+abbrev pub passes : Scan → Move → Bool
+passes s m = m .eat && ltb (s .tokenizer .at) (s .tokenizer .job .length)
+
 -- the line of the byte that comes next, and the lines after a decision
 abbrev pub lineNext : List ℕ → Scan → Move → Line
-lineNext page s m = if m .eat then linePast (s .lines .line) (s .tokenizer .at) (byteAt page (s .tokenizer .at)) else s .lines .line
+lineNext page s m = if passes s m then linePast (s .lines .line) (byteAt page (s .tokenizer .at)) else s .lines .line
 
 abbrev pub linesStep : List ℕ → Scan → Move → Lines
-linesStep page s m = linesAfter page (m .effect) (lineNext page s m) (s .lines)
+linesStep page s m = linesAfter page (m .effect) (lineNext page s m) (tabNext (m .eat) (s .lines .tab)) (s .lines)
 
--- the events of marks at a scan's place, whose byte is b: each stands there or one byte past it, in the line of its offset
+-- the events of marks at a scan's place, whose byte is b: each stands there, inside a tab if the scan is, or one byte past it
 abbrev pub marksAt : ℕ → Scan → List Mark → List Event
 marksAt b s marks =
     let line = s .lines .line in
     let at = s .tokenizer .at in
-    eventsAt (pointIn line at) (pointIn (linePast line at b) (at + 1)) marks
+    eventsAt (pointIn line (s .lines .tab) at) (pointIn (linePast line b) Outside (at + 1)) marks
 
 -- the scan after a decision that writes n events
 abbrev pub movedScan : Scan → Move → ℕ → Lines → Scan

@@ -3,6 +3,7 @@ use crate::Answer;
 use crate::Scan;
 use crate::Tally;
 use crate::lines::spot_in;
+use base::InTab;
 use base::state;
 ghost use mathlib.Core.Path.{_≡_};
 ghost use Rattle.scan.specs.Answer.{saidBy, tallyOf, verdictRefusal, refusal, answerOf};
@@ -25,12 +26,15 @@ impl Scan {
         let tokenizer = self.tokenizer;
         let regs = tokenizer.regs;
         let lines = self.lines;
+        let line = lines.line;
+        let tab = lines.tab;
         let name = tokenizer.state;
         let tally = self.tally();
         let number = regs.last;
         match name {
             state::VERDICT_ERROR => {
-                let spot = spot_in(lines.fault, regs.fault);
+                let fault = lines.fault;
+                let spot = spot_in(fault, InTab::Outside, regs.fault);
                 Answer::VerdictError {
                     spot,
                     number,
@@ -38,7 +42,7 @@ impl Scan {
                 }
             }
             state::VERDICT_EOF => {
-                let spot = spot_in(lines.line, tokenizer.at);
+                let spot = spot_in(line, tab, tokenizer.at);
                 Answer::VerdictEof {
                     spot,
                     number,
@@ -56,8 +60,10 @@ impl Scan {
         let tokenizer = self.tokenizer;
         let regs = tokenizer.regs;
         let lines = self.lines;
+        let line = lines.line;
+        let tab = lines.tab;
         let name = tokenizer.state;
-        let spot = spot_in(lines.line, tokenizer.at);
+        let spot = spot_in(line, tab, tokenizer.at);
         let tally = self.tally();
         let site = regs.site;
         let note = regs.note;
@@ -81,9 +87,11 @@ impl Scan {
     {
         let tokenizer = self.tokenizer;
         let lines = self.lines;
+        let line = lines.line;
+        let tab = lines.tab;
         let end = tokenizer.at;
         let name = tokenizer.state;
-        let spot = spot_in(lines.line, end);
+        let spot = spot_in(line, tab, end);
         let tally = self.tally();
         if state::FIRST_RUNNING <= name {
             return Answer::Paused { spot, tally };

@@ -5,6 +5,7 @@ use crate::Ran;
 use crate::Scan;
 use crate::lines::Lines;
 use crate::lines::lines_of;
+use base::InTab;
 use base::Verdict;
 use base::state;
 use page::Checked;
@@ -69,7 +70,7 @@ fn begin_if_good(checked: Checked, job: Job) -> Began
 fn first_lines(line: Line) -> Lines
     ensures { λ r. ⌜ r ≡ firstLines line ⌝ }
 {
-    lines_of(line, first_line(), first_line())
+    lines_of(line, InTab::Outside, first_line(), first_line())
 }
 
 // Registers at rest.

@@ -8,16 +8,39 @@ ghost use mathlib.Core.Bool.{true};
 ghost use Prim.Native.Nat.{_≤_, _<_};
 ghost use lib.ListN.{length};
 ghost use Rattle.base.specs.Page.{pageLimit, byteAt};
-ghost use Rattle.scan.specs.Gliding.{plainData, insideAName, Glides, GlidesTo, Glided, furthestPlace};
+ghost use Rattle.scan.specs.Gliding.{plainData, plainLine, plainValue, insideAName, Glides, GlidesTo, Glided, furthestPlace};
 
-// Data that neither ends nor nests an expression.
+// Data that neither ends nor nests an expression, and is one column.
 fn plain_data(b: u16) -> bool
     ensures { λ r. ⌜ r ≡ plainData b ⌝ }
 {
+    if b == byte::TAB {
+        return false;
+    }
     match b {
         byte::LINE_FEED | byte::LEFT_BRACE | byte::RIGHT_BRACE | byte::END_OF_PAGE => false,
         _ => true,
     }
+}
+
+// The same in a line of an ESM block.
+fn plain_line(b: u16) -> bool
+    ensures { λ r. ⌜ r ≡ plainLine b ⌝ }
+{
+    if b == byte::TAB {
+        return false;
+    }
+    !mdx_esm::line_ends(b)
+}
+
+// The same in a quoted value.
+fn plain_value(b: u16, quote: u16) -> bool
+    ensures { λ r. ⌜ r ≡ plainValue b quote ⌝ }
+{
+    if b == byte::TAB {
+        return false;
+    }
+    !mdx_jsx_attribute::quoted_ends(b, quote)
 }
 
 // One of the five states inside a name.
@@ -31,16 +54,16 @@ fn inside_a_name(name: u8) -> bool
 }
 
 // Whether the state passes the byte with no event and no change but of place: where most bytes of a page are. None of them is a line
-// feed, so that the lines stay as they are.
+// feed or a tab, so that each is one column.
 pub(crate) fn glides(name: u8, quote: u16, b: u16) -> bool
     ensures { λ r. ⌜ Glides name quote b r ⌝ }
 {
     if name == state::MDX_EXPRESSION_INSIDE {
         plain_data(b)
     } else if name == state::MDX_ESM_INSIDE {
-        !mdx_esm::line_ends(b)
+        plain_line(b)
     } else if name == state::MDX_JSX_ATTRIBUTE_VALUE_QUOTED {
-        !mdx_jsx_attribute::quoted_ends(b, quote)
+        plain_value(b, quote)
     } else if inside_a_name(name) {
         char_class::id_cont(b)
     } else {

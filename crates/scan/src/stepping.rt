@@ -2,15 +2,20 @@
 use crate::Scan;
 use crate::gliding::glide;
 use crate::gliding::glides;
+use crate::lines::HIGHEST_COLUMN;
 use crate::lines::Lines;
 use crate::lines::line_next;
 use crate::lines::line_past;
+use crate::lines::lines_of;
 use crate::lines::point_in;
+use crate::lines::tab_next;
+use base::InTab;
 use base::Marks;
 use base::Move;
 use base::byte_at;
 use base::retry;
 use base::state;
+use page::line::Line;
 use tokenizer::Tokenizer;
 ghost use mathlib.Core.Path.{_≡_};
 ghost use Prim.Native.Nat.{_+_, _-_, _*_, _≤_, _<_, _^_};
@@ -18,10 +23,9 @@ ghost use lib.ListN.{length};
 ghost use Rattle.base.specs.Page.{pageLimit, byteAt};
 ghost use Rattle.base.specs.Decide.{listOf, countOf};
 ghost use Rattle.events.specs.Words.{written};
-ghost use Rattle.scan.specs.Lines.{highest};
-ghost use Rattle.scan.specs.Scan.{movedScan, linesStep, marksAt, stepScan, stepEvents, runScan, runWords};
-ghost use Rattle.scan.specs.Inner.{Fit, Counts, Stepping};
-ghost use Rattle.scan.specs.Gliding.{countedOn, passedScan};
+ghost use Rattle.scan.specs.Scan.{movedScan, passes, linesStep, marksAt, stepScan, stepEvents, runScan, runWords};
+ghost use Rattle.scan.specs.Inner.{Low, Fit, Counts, Stepping};
+ghost use Rattle.scan.specs.Gliding.{countedOn, passedLines, passedScan};
 
 // What a run over the bytes from the start to the page's end takes at the most.
 pub(crate) fn step_bound(length: usize, start: usize) -> usize
@@ -44,6 +48,19 @@ fn count_steps(steps: usize, bound: usize, k: usize) -> usize
     steps + k
 }
 
+// The lines k columns further.
+fn passed_lines(lines: Lines, k: usize) -> Lines
+    ensures { λ r. ⌜ r ≡ passedLines lines k ⌝ }
+{
+    let kept = lines.kept;
+    let fault = lines.fault;
+    let line = Line {
+        number: lines.line.number,
+        column: count_steps(lines.line.column, HIGHEST_COLUMN, k),
+    };
+    lines_of(line, InTab::Outside, kept, fault)
+}
+
 impl Scan {
     // The scan after a decision whose n events are written, and its lines.
     fn moved(self, m: Move, n: usize, lines: Lines) -> Self
@@ -62,13 +79,13 @@ impl Scan {
         }
     }
 
-    // The scan after k steps that did no more than pass a byte each.
+    // The scan after k steps, one at least, that did no more than pass a byte each.
     fn passed(self, k: usize) -> Self
         requires { ⌜ Counts self 0 × (self .tokenizer .at + k < 2 ^ 64) ⌝ }
         ensures { λ r. ⌜ r ≡ passedScan self k ⌝ }
     {
         let tokenizer = self.tokenizer;
-        let lines = self.lines;
+        let lines = passed_lines(self.lines, k);
         let job = tokenizer.job;
         let regs = tokenizer.regs;
         let heard = tokenizer.heard;
@@ -88,27 +105,44 @@ impl Scan {
         }
     }
 
+    // Whether a decision eats a byte, and there is one.
+    fn passes(self, m: Move) -> bool
+        ensures { λ r. ⌜ r ≡ passes self m ⌝ }
+    {
+        if m.eat {
+            return self.tokenizer.at < self.tokenizer.job.length;
+        }
+        false
+    }
+
     // The lines after a decision at the byte b.
     fn lines_after(self, page: &[u8], m: Move, b: u16) -> Lines
-        requires { ⌜ (self .tokenizer .at < 2 ^ 63) × (b ≡ byteAt (now page) (self .tokenizer .at)) ⌝ }
+        requires { ⌜ (length (now page) ≤ pageLimit) × (b ≡ byteAt (now page) (self .tokenizer .at)) ⌝ }
         ensures { λ r. ⌜ r ≡ linesStep (now (page .entry)) self m ⌝ }
     {
         let lines = self.lines;
         let line = lines.line;
+        let tab = lines.tab;
         let effect = m.effect;
-        lines.after(page, effect, line_next(line, self.tokenizer.at, m.eat, b))
+        lines.after(
+            page,
+            effect,
+            line_next(line, self.passes(m), b),
+            tab_next(tab, m.eat),
+        )
     }
 
     // The events of a step at the byte b are written.
     fn put_events(self, words: &mut [u32], marks: Marks, b: u16)
-        requires { ⌜ (self .lines .line .number ≤ highest) × (self .tokenizer .at ≤ pageLimit) × ((self .used + countOf marks) * 4 ≤ length (now words)) ⌝ }
+        requires { ⌜ Low (self .lines .line) × (self .tokenizer .at ≤ pageLimit) × ((self .used + countOf marks) * 4 ≤ length (now words)) ⌝ }
         ensures { λ _. ⌜ now (words .exit) ≡ written (now (words .entry)) (self .used) (marksAt b self (listOf marks)) ⌝ }
     {
         let lines = self.lines;
         let line = lines.line;
+        let tab = lines.tab;
         let at = self.tokenizer.at;
-        let here = point_in(line, at);
-        let past = point_in(line_past(line, at, b), at + 1);
+        let here = point_in(line, tab, at);
+        let past = point_in(line_past(line, b), InTab::Outside, at + 1);
         events::put(words, self.used, here, past, marks);
     }
 

@@ -24,7 +24,7 @@ use Rattle.tokenizer.specs.Moved.{oneMore, moved}
 use Rattle.tokenizer.specs.Ranges.{esm, constructListed, kindListed, jobInRange, runsIn, isAnswer, listed, isReturn, numbersInRange, placesInRange, regsInRange, verdictInRange, inRange}
 use Rattle.page.specs.Page.{pageOf, Admitted}
 use Rattle.scan.specs.declared.Scan.{Scan}
-use Rattle.scan.specs.Lines.{linesInRange}
+use Rattle.scan.specs.Lines.{lineInRange, linesInRange}
 use Rattle.scan.specs.Scan.{stepBound, choice, lacks, carriedOut, stepScan, runScan}
 use Rattle.scan.specs.Call.{scanInRange, runnable, runOf, givable, givenScan, giveOf, jobOf, allFlags, freshScan, numbersListed, Begun, started, notStarted, beginOf, Left, noScan, ranFrom, singleOf}
 use Rattle.scan.proofs.Begun.{begins}
@@ -164,7 +164,7 @@ new-gives-in-range bytes at n start construct kind flags words s e =
 -- ---- a single scan in one call
 
 none-in-range : scanInRange noScan ≡ true
-unfolding scanInRange linesInRange inRange jobInRange constructListed kindListed listed isAnswer runsIn isReturn numbersInRange placesInRange regsInRange verdictInRange within if_then_else_
+unfolding scanInRange linesInRange lineInRange inRange jobInRange constructListed kindListed listed isAnswer runsIn isReturn numbersInRange placesInRange regsInRange verdictInRange within if_then_else_
 none-in-range = refl
 
 single-gives-in-range : (bytes : List ℕ) (at n start construct kind flags allowance : ℕ) (words : List ℕ) → scanInRange (singleOf bytes at n start construct kind flags allowance words .scan) ≡ true

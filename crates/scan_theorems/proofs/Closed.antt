@@ -10,7 +10,7 @@ use borrow.Author.Needs.{needs}
 use Rattle.base.proofs.Choice.{if-is, case, both}
 use Rattle.base.specs.State.{rests}
 use Rattle.base.specs.declared.Effect.{Effect}
-use Rattle.base.specs.declared.Effect.the-variants.{Keep, Deeper, Shallower, Open, PrefixBegins, PrefixGoesOn, PrefixEnds, Quote, Return, Save, Restore, Last, Fault, Refuse}
+use Rattle.base.specs.declared.Effect.the-variants.{Keep, Deeper, Shallower, Open, PrefixBegins, PrefixGoesOn, PrefixEnds, PrefixInTab, Quote, Return, Save, Restore, Last, Fault, Refuse}
 use Rattle.base.specs.declared.Move.{Move}
 use Rattle.tokenizer.specs.Decision.{decision}
 use Rattle.base.specs.Page.{pageLimit}
@@ -42,6 +42,7 @@ place-small Open next saved n h g = h
 place-small PrefixBegins next saved n h g = h
 place-small PrefixGoesOn next saved n h g = h
 place-small PrefixEnds next saved n h g = h
+place-small (PrefixInTab passed) next saved n h g = h
 place-small (Quote b) next saved n h g = h
 place-small (Return name) next saved n h g = h
 place-small Save next saved n h g = h
@@ -59,6 +60,7 @@ changed-in n at next Open r a b c h = search needs
 changed-in n at next PrefixBegins r a b c h = let d = joint-small (r .joint) at n (h .joint) a in search needs
 changed-in n at next PrefixGoesOn r a b c h = let d = more-small (r .prefix) 2 (h .prefix) in search needs
 changed-in n at next PrefixEnds r a b c h = search needs
+changed-in n at next (PrefixInTab passed) r a b c h = search needs
 changed-in n at next (Quote q) r a b c h = let d = leb-true q 255 c in search needs
 changed-in n at next (Return name) r a b c h = search needs
 changed-in n at next Save r a b c h = search needs

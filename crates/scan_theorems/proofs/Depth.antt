@@ -16,7 +16,7 @@ use Rattle.base.specs.State as state
 use Rattle.base.specs.Decide.{eatWith, retry}
 use Rattle.base.specs.declared.Marks.the-variants.{Nothing}
 use Rattle.base.specs.declared.Effect.{Effect}
-use Rattle.base.specs.declared.Effect.the-variants.{Keep, Deeper, Shallower, Open, PrefixBegins, PrefixGoesOn, PrefixEnds, Quote, Return, Save, Restore, Last, Fault, Refuse}
+use Rattle.base.specs.declared.Effect.the-variants.{Keep, Deeper, Shallower, Open, PrefixBegins, PrefixGoesOn, PrefixEnds, PrefixInTab, Quote, Return, Save, Restore, Last, Fault, Refuse}
 use Rattle.base.specs.declared.Move.{Move}
 use Rattle.base.specs.declared.Verdict.{Verdict}
 use Rattle.base.specs.declared.Verdict.the-variants.{Fine, Unfinished, Wrong}
@@ -51,6 +51,7 @@ flat Open = true
 flat PrefixBegins = true
 flat PrefixGoesOn = true
 flat PrefixEnds = true
+flat (PrefixInTab passed) = true
 flat (Quote b) = true
 flat (Return name) = true
 flat Save = true
@@ -75,6 +76,7 @@ module _ (at n : ℕ) (eat : Bool) (g : Regs) where
   level PrefixBegins h = (omega arith, next-behind at n eat)
   level PrefixGoesOn h = (omega arith, next-behind at n eat)
   level PrefixEnds h = (omega arith, next-behind at n eat)
+  level (PrefixInTab passed) h = (omega arith, next-behind at n eat)
   level (Quote b) h = (omega arith, next-behind at n eat)
   level (Return name) h = (omega arith, next-behind at n eat)
   level Save h = (omega arith, next-behind at n eat)

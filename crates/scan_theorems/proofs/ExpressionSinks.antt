@@ -8,19 +8,19 @@ use Rattle.base.specs.If.{if_then_else_}
 use Rattle.base.proofs.Choice.{if-is, case, or-no, both}
 use Rattle.base.specs.Range.{within}
 use Rattle.base.specs.Table.{find}
-use Rattle.base.specs.Byte.{leftBrace, rightBrace, endOfPage}
+use Rattle.base.specs.Byte.{space, leftBrace, rightBrace, endOfPage}
 use Rattle.base.specs.State.{asking, mdxExpressionBefore, mdxExpressionInside, mdxExpressionPrefix}
-use Rattle.base.specs.declared.Effect.the-variants.{PrefixBegins, PrefixEnds, Last}
+use Rattle.base.specs.declared.Effect.the-variants.{PrefixBegins, PrefixEnds, PrefixInTab, Last}
+use Rattle.base.specs.declared.InTab.{InTab}
 use Rattle.base.specs.declared.Verdict.{Verdict}
 use Rattle.base.specs.declared.Verdict.the-variants.{Fine, Unfinished, Wrong}
-use Rattle.char_class.specs.Class.{isSpaceOrTab}
-use Rattle.mdx_expression.specs.Expression.{stops, start, before, inside, eolAfter, prefixSize, prefix, verdict}
+use Rattle.mdx_expression.specs.Expression.{stops, start, before, inside, eolAfter, prefixSize, prefixInTab, taken, prefix, verdict}
 use Rattle.tokenizer.specs.Moved.{changed}
 use Rattle.tokenizer.specs.Ranges.{isReturn}
 use Rattle.tokenizer.specs.declared.Regs.{Regs}
 use Rattle.scan_theorems.proofs.Tests.{or-left}
-use Rattle.scan_theorems.proofs.There.{byte-there, space-there}
-use Rattle.scan_theorems.proofs.Rank.{rank, insideRank, verdictRank, returns-small, rank-return}
+use Rattle.scan_theorems.proofs.There.{byte-there}
+use Rattle.scan_theorems.proofs.Rank.{rank, prefixRank, insideRank, verdictRank, returns-small, rank-return}
 use Rattle.scan_theorems.proofs.Sinks.{Sinks, ends, eats, falls, pick}
 
 module _ (at : ℕ) (r : Regs) (b : ℕ) where
@@ -37,9 +37,14 @@ module _ (at : ℕ) (r : Regs) (b : ℕ) where
   unfolding rank isReturn within find if_then_else_
   before-low k h = h
 
-  prefix-low : rank mdxExpressionPrefix b (changed PrefixBegins at at r) < 4
+  prefix-low : rank mdxExpressionPrefix b (changed PrefixBegins at at r) < 5
   unfolding rank isReturn within find if_then_else_
-  prefix-low = omega arith
+  prefix-low = case _ (prefixInTab b (r .prefix)) (λ e. rw e (omega arith)) (λ e. rw e (omega arith))
+
+  -- two columns are passed then, and no more are the prefix's
+  in-tab-low : (tab : InTab) → rank mdxExpressionPrefix b (changed (PrefixInTab tab) at at r) < 4
+  unfolding rank isReturn within find if_then_else_
+  in-tab-low tab = omega arith
 
   ended-low : rank mdxExpressionBefore b (changed PrefixEnds at at r) < 3
   unfolding rank isReturn within find if_then_else_
@@ -67,12 +72,14 @@ module _ (at : ℕ) (r : Regs) (b : ℕ) where
       rw e (case _ (eqb b leftBrace) (λ f. rw f (case _ asks (λ g. rw g (eats refl refl n)) (λ g. rw g (eats refl refl n))))
       (λ f. rw f (case _ (eqb b rightBrace) (λ g. rw g (eats refl refl n)) (λ g. rw g (eats refl refl n))))))
 
-  pub eol-sinks : Sinks at r b 4 (eolAfter b)
-  eol-sinks = pick (λ e. falls refl prefix-low) (λ e. falls refl (before-low 4 (omega arith)))
+  pub eol-sinks : Sinks at r b 5 (eolAfter b)
+  eol-sinks = pick (λ e. falls refl prefix-low) (λ e. falls refl (before-low 5 (omega arith)))
 
-  pub prefix-sinks : (size : ℕ) → Sinks at r b 3 (prefix b size)
+  pub prefix-sinks : (size : ℕ) → Sinks at r b (prefixRank b size) (prefix b size)
+  unfolding if_then_else_
   prefix-sinks size =
-      pick (λ e. eats refl refl (space-there b (both (ltb size prefixSize) (isSpaceOrTab b) e .1))) (λ e. falls refl ended-low)
+      pick (λ e. eats refl refl (byte-there b space (both (ltb size prefixSize) (eqb b space) e .1) refl))
+      (λ e. case _ (prefixInTab b size) (λ f. rw f (falls refl (in-tab-low (taken size)))) (λ f. rw f (falls refl ended-low)))
 
   pub verdict-sinks : (v : Verdict) (place token : ℕ) → isReturn (r .back) ≡ true → Sinks at r b (verdictRank b) (verdict v place token (r .back))
   unfolding if_then_else_

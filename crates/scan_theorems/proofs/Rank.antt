@@ -11,7 +11,7 @@ use Rattle.base.proofs.Choice.{if-is}
 use Rattle.base.specs.Table.{find}
 use Rattle.base.specs.Byte.{lineFeed, endOfPage}
 use Rattle.base.specs.State as state
-use Rattle.mdx_expression.specs.Expression.{stops}
+use Rattle.mdx_expression.specs.Expression.{stops, prefixInTab}
 use Rattle.mdx_jsx.specs.Jsx.{whitespaceOrEnd}
 use Rattle.mdx_jsx_attribute.specs.Attribute.{quotedEnds}
 use Rattle.tokenizer.specs.Ranges.{isReturn}
@@ -43,6 +43,10 @@ returns name =
     ∷ [])
     0
 
+-- a line prefix that ends inside a tab takes its columns first
+abbrev pub prefixRank : ℕ → ℕ → ℕ
+prefixRank b size = if prefixInTab b size then 4 else 3
+
 -- a run of data, or of a quoted value, is left where it stops
 abbrev pub insideRank : ℕ → ℕ → ℕ
 insideRank b depth = if stops b depth then 3 else 1
@@ -73,8 +77,8 @@ others b r =
     (state.mdxExpressionStart, 1)
     ∷ (state.mdxExpressionBefore, 2)
     ∷ (state.mdxExpressionInside, insideRank b (r .depth))
-    ∷ (state.mdxExpressionEolAfter, 4)
-    ∷ (state.mdxExpressionPrefix, 3)
+    ∷ (state.mdxExpressionEolAfter, 5)
+    ∷ (state.mdxExpressionPrefix, prefixRank b (r .prefix))
     ∷ (state.mdxExpressionVerdict, verdictRank b)
     ∷ (state.asking, verdictRank b)
     ∷ (state.mdxJsxStart, 1)
@@ -118,7 +122,7 @@ rank-small name b r =
     & (λ e. omega arith)
     & (λ e. chosen 7 _ _ _ (omega arith) (omega arith))
     & (λ e. omega arith)
-    & (λ e. omega arith)
+    & (λ e. chosen 7 _ _ _ (omega arith) (omega arith))
     & (λ e. chosen 7 _ _ _ (omega arith) (omega arith))
     & (λ e. chosen 7 _ _ _ (omega arith) (omega arith))
     & (λ e. omega arith)

@@ -17,7 +17,7 @@ use Rattle.base.specs.declared.Marks.the-variants.{Nothing}
 use Rattle.base.specs.declared.Move.{Move}
 use Rattle.base.specs.declared.Verdict.{Verdict}
 use Rattle.base.specs.Page.{pageLimit}
-use Rattle.page.proofs.Lines.{line-within}
+use Rattle.page.proofs.Lines.{line-within, column-within}
 use Rattle.events.specs.Words.{roomIn}
 use Rattle.tokenizer.specs.declared.Job.{Job}
 use Rattle.tokenizer.specs.declared.Tokenizer.{Tokenizer}
@@ -145,7 +145,14 @@ within-fresh page j h l =
       sound = sound-fresh page j h l;
       room = omega arith;
       paid = omega (arith, left-fresh page j l);
-      lines = (omega (arith, line-within page (j .start), start-within j h, length-short j h), omega arith, omega arith);
+      lines = (
+        record {
+          number = omega (arith, line-within page (j .start), start-within j h, length-short j h);
+          column = omega (arith, column-within page (j .start), start-within j h, length-short j h);
+        },
+        record { number = omega arith; column = omega arith },
+        record { number = omega arith; column = omega arith },
+      );
     }
 
 -- ---- a whole scan, with the verdicts that it is given

@@ -12,7 +12,7 @@ use Rattle.base.specs.Byte.{lineFeed, endOfPage}
 use Rattle.base.specs.State.{badCall}
 use Rattle.base.specs.declared.Marks.{Marks}
 use Rattle.base.specs.declared.Effect.{Effect}
-use Rattle.base.specs.declared.Effect.the-variants.{Keep, Deeper, Shallower, Open, PrefixBegins, PrefixGoesOn, PrefixEnds, Quote, Return, Save, Restore, Last, Fault, Refuse}
+use Rattle.base.specs.declared.Effect.the-variants.{Keep, Deeper, Shallower, Open, PrefixBegins, PrefixGoesOn, PrefixEnds, PrefixInTab, Quote, Return, Save, Restore, Last, Fault, Refuse}
 use Rattle.base.specs.declared.Move.{Move}
 use Rattle.mdx_jsx.specs.Jsx.{whitespaceOrEnd, whitespaceHere}
 use Rattle.tokenizer.specs.Moved.{changed}
@@ -29,6 +29,7 @@ stays Open = true
 stays PrefixBegins = true
 stays PrefixGoesOn = true
 stays PrefixEnds = true
+stays (PrefixInTab passed) = true
 stays (Quote b) = true
 stays (Return name) = true
 stays Save = true

@@ -16,7 +16,7 @@ use Rattle.base.specs.State as state
 use Rattle.base.specs.Decide.{retry}
 use Rattle.base.specs.declared.Marks.the-variants.{Nothing}
 use Rattle.base.specs.declared.Effect.{Effect}
-use Rattle.base.specs.declared.Effect.the-variants.{Keep, Deeper, Shallower, Open, PrefixBegins, PrefixGoesOn, PrefixEnds, Quote, Return, Save, Restore, Last, Fault, Refuse}
+use Rattle.base.specs.declared.Effect.the-variants.{Keep, Deeper, Shallower, Open, PrefixBegins, PrefixGoesOn, PrefixEnds, PrefixInTab, Quote, Return, Save, Restore, Last, Fault, Refuse}
 use Rattle.base.specs.declared.Move.{Move}
 use Rattle.base.specs.declared.Verdict.{Verdict}
 use Rattle.base.specs.declared.Verdict.the-variants.{Fine, Unfinished, Wrong}
@@ -45,6 +45,7 @@ siteOf Open = 0
 siteOf PrefixBegins = 0
 siteOf PrefixGoesOn = 0
 siteOf PrefixEnds = 0
+siteOf (PrefixInTab passed) = 0
 siteOf (Quote b) = 0
 siteOf (Return name) = 0
 siteOf Save = 0
@@ -170,6 +171,7 @@ site-named Open at next r h = clash false h refl
 site-named PrefixBegins at next r h = clash false h refl
 site-named PrefixGoesOn at next r h = clash false h refl
 site-named PrefixEnds at next r h = clash false h refl
+site-named (PrefixInTab passed) at next r h = clash false h refl
 site-named (Quote b) at next r h = clash false h refl
 site-named (Return name) at next r h = clash false h refl
 site-named Save at next r h = clash false h refl

@@ -12,7 +12,7 @@ use Rattle.base.proofs.Choice.{case, both, if-is}
 use Rattle.base.specs.Page.{byteAt}
 use Rattle.base.specs.State.{badCall}
 use Rattle.base.specs.declared.Effect.{Effect}
-use Rattle.base.specs.declared.Effect.the-variants.{Keep, Deeper, Shallower, Open, PrefixBegins, PrefixGoesOn, PrefixEnds, Quote, Return, Save, Restore, Last, Fault, Refuse}
+use Rattle.base.specs.declared.Effect.the-variants.{Keep, Deeper, Shallower, Open, PrefixBegins, PrefixGoesOn, PrefixEnds, PrefixInTab, Quote, Return, Save, Restore, Last, Fault, Refuse}
 use Rattle.base.specs.declared.Move.{Move}
 use Rattle.tokenizer.specs.Moved.{nextPlace, placeAfter, changed, moved}
 use Rattle.tokenizer.specs.Ranges.{esm}
@@ -32,6 +32,7 @@ stay Open next saved h = refl
 stay PrefixBegins next saved h = refl
 stay PrefixGoesOn next saved h = refl
 stay PrefixEnds next saved h = refl
+stay (PrefixInTab passed) next saved h = refl
 stay (Quote b) next saved h = refl
 stay (Return name) next saved h = refl
 stay Save next saved h = refl

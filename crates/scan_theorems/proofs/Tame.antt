@@ -12,7 +12,7 @@ use Rattle.base.specs.Range.{within}
 use Rattle.base.proofs.Ranges.{is-within}
 use Rattle.base.specs.State as state
 use Rattle.base.specs.declared.Effect.{Effect}
-use Rattle.base.specs.declared.Effect.the-variants.{Keep, Deeper, Shallower, Open, PrefixBegins, PrefixGoesOn, PrefixEnds, Quote, Return, Save, Restore, Last, Fault, Refuse}
+use Rattle.base.specs.declared.Effect.the-variants.{Keep, Deeper, Shallower, Open, PrefixBegins, PrefixGoesOn, PrefixEnds, PrefixInTab, Quote, Return, Save, Restore, Last, Fault, Refuse}
 use Rattle.base.specs.declared.Move.{Move}
 use Rattle.mdx_jsx.specs.Jsx.{noNote, linkInMdx}
 use Rattle.mdx_jsx_name.specs.Name.{linkNote}
@@ -41,6 +41,7 @@ calm Open = true
 calm PrefixBegins = true
 calm PrefixGoesOn = true
 calm PrefixEnds = true
+calm (PrefixInTab passed) = true
 calm (Quote b) = leb b 255
 calm (Return name) = isReturn name
 calm Save = true

@@ -5,7 +5,7 @@ use lib.Dec.{ltb, eqb}
 use Rattle.base.specs.If.{if_then_else_}
 use Rattle.base.specs.Page.{pageLimit}
 use Rattle.base.specs.declared.Effect.{Effect}
-use Rattle.base.specs.declared.Effect.the-variants.{Keep, Deeper, Shallower, Open, PrefixBegins, PrefixGoesOn, PrefixEnds, Quote, Return, Save, Restore, Last, Fault, Refuse}
+use Rattle.base.specs.declared.Effect.the-variants.{Keep, Deeper, Shallower, Open, PrefixBegins, PrefixGoesOn, PrefixEnds, PrefixInTab, Quote, Return, Save, Restore, Last, Fault, Refuse}
 use Rattle.base.specs.declared.Move.{Move}
 use Rattle.tokenizer.specs.declared.Regs.{Regs}
 use Rattle.tokenizer.specs.declared.Tokenizer.{Tokenizer}
@@ -28,6 +28,7 @@ placeAfter Open next saved = next
 placeAfter PrefixBegins next saved = next
 placeAfter PrefixGoesOn next saved = next
 placeAfter PrefixEnds next saved = next
+placeAfter (PrefixInTab tab) next saved = next
 placeAfter (Quote b) next saved = next
 placeAfter (Return name) next saved = next
 placeAfter Save next saved = next
@@ -44,7 +45,7 @@ firstJoint joint at = if eqb joint 0 then at else joint
 abbrev pub mostBraces : ℕ
 mostBraces = pageLimit
 
--- "After a line ending, at most two tabs or spaces are a line prefix"
+-- "After a line ending, at most two columns of tabs or spaces are a line prefix"
 abbrev pub longestPrefix : ℕ
 longestPrefix = 2
 
@@ -57,6 +58,7 @@ changed Open at next r = withBody next (withJoint 0 r)
 changed PrefixBegins at next r = withJoint (firstJoint (r .joint) at) r
 changed PrefixGoesOn at next r = withPrefix (oneMore (r .prefix) longestPrefix) r
 changed PrefixEnds at next r = withPrefix 0 r
+changed (PrefixInTab tab) at next r = withPrefix longestPrefix r
 changed (Quote b) at next r = withQuote b r
 changed (Return name) at next r = withBack name r
 changed Save at next r = withSaved at r

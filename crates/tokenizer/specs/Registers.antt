@@ -15,7 +15,7 @@ withBack n r = record { back = n; depth = r .depth; prefix = r .prefix; quote = 
 abbrev pub withDepth : ℕ → Regs → Regs
 withDepth n r = record { back = r .back; depth = n; prefix = r .prefix; quote = r .quote; last = r .last; site = r .site; note = r .note; saved = r .saved; body = r .body; joint = r .joint; fault = r .fault }
 
--- how long the line prefix is
+-- how many columns of the line prefix are passed
 abbrev pub withPrefix : ℕ → Regs → Regs
 withPrefix n r = record { back = r .back; depth = r .depth; prefix = n; quote = r .quote; last = r .last; site = r .site; note = r .note; saved = r .saved; body = r .body; joint = r .joint; fault = r .fault }
 

@@ -11,6 +11,7 @@ use base::kind;
 use base::retry;
 use base::state;
 ghost use mathlib.Core.Path.{_≡_};
+ghost use Prim.Native.Nat.{_<_, _^_};
 ghost use Rattle.tokenizer.specs.Decision as decision;
 
 // The kind of a tag's own events.
@@ -71,6 +72,7 @@ fn refuses_not_ascii(name: u8, b: u16) -> bool
 
 // Where a verdict that says error stands in the body of an expression; any other stands where it was asked for.
 fn expression_fault(page: &[u8], heard: Verdict, from: usize, at: usize) -> usize
+    requires { ⌜ at < 2 ^ 63 ⌝ }
     ensures { λ r. ⌜ r ≡ decision.expressionFault (now (page .entry)) heard from at ⌝ }
 {
     match heard {
@@ -207,6 +209,7 @@ impl Tokenizer {
 
     // The decision of a state of an expression.
     fn expression_state(self, page: &[u8], b: u16) -> Move
+        requires { ⌜ self .at < 2 ^ 63 ⌝ }
         ensures { λ r. ⌜ r ≡ decision.expressionDecision (now (page .entry)) self b ⌝ }
     {
         let name = self.state;
@@ -240,6 +243,7 @@ impl Tokenizer {
 
     // The states are numbered by construct.
     fn state_decision(self, page: &[u8], b: u16) -> Move
+        requires { ⌜ self .at < 2 ^ 63 ⌝ }
         ensures { λ r. ⌜ r ≡ decision.stateDecision (now (page .entry)) self b ⌝ }
     {
         let name = self.state;
@@ -255,6 +259,7 @@ impl Tokenizer {
 
     // The decision of the state that the scan is in, on the byte b at its place.
     pub fn call(self, page: &[u8], b: u16) -> Move
+        requires { ⌜ self .at < 2 ^ 63 ⌝ }
         ensures { λ r. ⌜ r ≡ decision.decision (now (page .entry)) self b ⌝ }
     {
         if refuses_not_ascii(self.state, b) {

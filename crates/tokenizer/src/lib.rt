@@ -41,7 +41,7 @@ pub struct Regs {
     pub quote: u16,
     // The state that white space or an expression returns to; DONE for an expression that stands alone.
     pub back: u8,
-    // How long the line prefix is.
+    // How many columns of the line prefix are passed.
     pub prefix: u8,
     // Where a refusal stands, and its note.
     pub site: u8,

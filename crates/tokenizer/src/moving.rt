@@ -10,7 +10,7 @@ ghost use Rattle.tokenizer.specs.Moved.{mostBraces, longestPrefix, oneMo
 // No page holds more braces than bytes.
 pub const MOST_BRACES: u32 = 1_048_576;
 
-// A line prefix has two bytes at the most.
+// A line prefix has two columns at the most.
 pub const LONGEST_PREFIX: u8 = 2;
 
 // One more brace than `depth`.
@@ -31,7 +31,7 @@ fn one_shallower(depth: u32) -> u32
     if 0 < depth { depth - 1 } else { 0 }
 }
 
-// One byte more in a line prefix, which has two at the most.
+// One column more in a line prefix, which has two at the most.
 fn one_longer(prefix: u8) -> u8
     ensures { λ r. ⌜ r ≡ oneMore prefix longestPrefix ⌝ }
 {
@@ -73,6 +73,7 @@ fn place_after(effect: Effect, next: usize, saved: usize) -> usize
         Effect::PrefixBegins => next,
         Effect::PrefixGoesOn => next,
         Effect::PrefixEnds => next,
+        Effect::PrefixInTab(_) => next,
         Effect::Quote(_) => next,
         Effect::Return(_) => next,
         Effect::Save => next,
@@ -100,6 +101,7 @@ impl Regs {
             Effect::PrefixBegins => out.joint = first_joint(self.joint, at),
             Effect::PrefixGoesOn => out.prefix = one_longer(self.prefix),
             Effect::PrefixEnds => out.prefix = 0,
+            Effect::PrefixInTab(_) => out.prefix = LONGEST_PREFIX,
             Effect::Quote(quote) => out.quote = quote,
             Effect::Return(name) => out.back = name,
             Effect::Save => out.saved = at,

@@ -8,6 +8,7 @@ use mathlib.Core.List.{List, [], _∷_}
 use lib.Dec.{leb, ltb, eqb}
 use lib.ListN.{length, getD, set}
 use Rattle.base.specs.State.{asking, firstRunning}
+use Rattle.base.specs.declared.InTab.the-variants.{Outside}
 use Rattle.base.specs.declared.Verdict.the-variants.{Fine}
 use Rattle.events.specs.Share.{shareOf}
 use Rattle.page.specs.declared.line.Line.{Line}
@@ -51,14 +52,14 @@ placeInRange n p = eqb (p .scan .tokenizer .job .words) n && scanInRange (p .sca
 
 -- what is read past the last place: every number 0, and not taken
 abbrev noLine : Line
-noLine = record { number = 0; first = 0 }
+noLine = record { number = 0; column = 0 }
 
 abbrev pub beyond : Place
 beyond =
     placeOf false 0
     (record {
       tokenizer = record { job = noScan .tokenizer .job; state = 0; at = 0; regs = noRegs; heard = Fine };
-      lines = linesOf noLine noLine noLine;
+      lines = linesOf noLine Outside noLine noLine;
       used = 0;
       steps = 0;
     })

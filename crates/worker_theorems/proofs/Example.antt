@@ -27,8 +27,8 @@ use Rattle.scan_theorems.proofs.EveryState.{all, all-hold}
 use Rattle.worker.specs.Place.{stateOf, placeInRange, workerInRange, holds}
 use Rattle.worker.specs.Ring.{places, seek}
 use Rattle.worker.specs.Worker.{startOf, admitOf, verdictOf, collectCall, pageIn, liesIn, servedAt, turnAt, turnOf}
-use Rattle.page.specs.Line.{lineOf, firstOf}
-use Rattle.scan.specs.Lines.{linesInRange}
+use Rattle.page.specs.Line.{lineOf, columnOf}
+use Rattle.scan.specs.Lines.{lineInRange, linesInRange}
 use Rattle.worker_theorems.specs.Calls.{Page, Ask, admit, verdict, aTurn, collect, State, next, answer, afterCalls, placeAt}
 use Rattle.worker_theorems.specs.Demand3.{begun, textOf, unfinished, Lent, Fair}
 
@@ -159,8 +159,9 @@ unfolding
     answerOf
     freshIn
     lineOf
-    firstOf
+    columnOf
     linesInRange
+    lineInRange
     if_then_else_
 the-first-page = (refl, refl, refl)
 
@@ -239,8 +240,9 @@ unfolding
     answerOf
     freshIn
     lineOf
-    firstOf
+    columnOf
     linesInRange
+    lineInRange
     if_then_else_
 fair =
     let page = textOf bytes first in (λ e. lent-by page bytes s₁ refl refl, tt, (tt, tt, (λ e. absurd (omega (arith, e)), tt, (λ e. lent-by page bytes s₃ refl refl, tt, (λ e. lent-by page bytes s₄ refl refl, tt, (λ e. lent-by page bytes s₅ refl refl, tt, (λ e. lent-by page bytes s₆ refl refl, tt, (tt, tt, (λ e. lent-by page grown s₈ refl refl, tt, (λ e. lent-by page grown s₉ refl refl, tt, tt))))))))))

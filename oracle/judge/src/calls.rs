@@ -7,7 +7,8 @@ use crate::door::{Judge, Scan};
 pub struct Call {
     /// Number of the state in [`STATES`].
     pub state: usize,
-    /// The byte that it meets; none at the end of the page.
+    /// The byte that it meets; none at the end of the page. Of a tab, that is
+    /// a space for each column but the first.
     pub byte: Option<u8>,
 }
 

@@ -1,6 +1,6 @@
 //! Document 01's domain: where the crate decides.
 
-use crate::door::{Answer, Construct, Judge, Mark, Outcome, Scan, Verdict};
+use crate::door::{Answer, Construct, Judge, Scan, Verdict};
 use crate::event::Name;
 
 /// Longest page (document 01, answer 2).
@@ -30,11 +30,9 @@ pub fn forbids_case(scan: &Scan) -> Option<&'static str> {
     }
 }
 
-/// Why a run turned out to be outside.
-pub fn forbids_run(judge: &Judge, scan: &Scan, outcome: &Outcome) -> Option<&'static str> {
-    if opens_line_with_tab(scan.page, &outcome.events) {
-        Some("a tab in the white space that opens a later line of an expression")
-    } else if scan.construct == Construct::Tag
+/// Why a run would turn out to be outside.
+pub fn forbids_run(judge: &Judge, scan: &Scan) -> Option<&'static str> {
+    if scan.construct == Construct::Tag
         && !scan.page[scan.start..].is_ascii()
         && meets_non_ascii(judge, scan)
     {
@@ -44,35 +42,10 @@ pub fn forbids_run(judge: &Judge, scan: &Scan, outcome: &Outcome) -> Option<&'st
     }
 }
 
-/// Whether white space with a tab opens a later line of an expression.
-///
-/// There the crate counts columns of the tab, document 01 counts the byte.
-fn opens_line_with_tab(page: &[u8], events: &[Mark]) -> bool {
-    let mut in_expression = false;
-    for event in events {
-        if event.is(&Name::MdxFlowExpression)
-            || event.is(&Name::MdxTextExpression)
-            || event.is(&Name::MdxJsxTagAttributeExpression)
-            || event.is(&Name::MdxJsxTagAttributeValueExpression)
-        {
-            in_expression = !event.exit;
-        } else if in_expression && event.exit && event.is(&Name::LineEnding) {
-            let line = &page[event.place.offset..];
-            let opening = line
-                .iter()
-                .take_while(|byte| matches!(byte, b'\t' | 0x0B | 0x0C | b' '));
-            if opening.into_iter().any(|byte| *byte == b'\t') {
-                return true;
-            }
-        }
-    }
-    false
-}
-
 /// Whether a tag state other than the first and the two of quoted values runs
 /// with a byte of 128 or more at its place (document 01, answer 5).
 ///
-/// Found by a second run over a page where each such byte is byte 1. States of
+/// Found by another run over a page where each such byte is byte 1. States of
 /// expressions and quoted values pass both alike. Every other tag state comes
 /// to an error at byte 1, at once or when the white space state before it has
 /// passed it on; so does no byte that was ASCII before.
@@ -95,9 +68,6 @@ fn meets_non_ascii(judge: &Judge, scan: &Scan) -> bool {
 
     match outcome.answer {
         Answer::Unexpected { place, .. } if is_other(place.offset) => true,
-        // The second run can be outside where the first was Nok, whose events
-        // show nothing; no need to find out more.
-        Answer::Outside { .. } => true,
         Answer::Nok => (scan.start..scan.page.len()).any(|offset| {
             is_other(offset)
                 && scan.page[scan.start..offset]

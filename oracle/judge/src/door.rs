@@ -90,8 +90,8 @@ pub enum Answer {
 impl Answer {
     /// The place that it carries. The end of a construct that is done is an
     /// offset without line and column, and so no place.
-    pub fn place_mut(&mut self) -> Option<&mut Place> {
-        match self {
+    pub fn place(&self) -> Option<Place> {
+        match *self {
             Answer::Eof { place, .. }
             | Answer::Unexpected { place, .. }
             | Answer::VerdictError { place, .. }
@@ -109,6 +109,9 @@ pub struct Mark {
     /// Number of the name in `Name::ALL`.
     name: usize,
     pub place: Place,
+    /// How many columns of the tab at the place are passed, if it is not
+    /// finished there; else 0.
+    pub passed: usize,
 }
 
 impl Mark {
@@ -146,9 +149,13 @@ struct Source {
     pointed_past: bool,
 }
 
+/// An offset that no body has: the crate's helper finds no place for it.
+const NOWHERE: usize = usize::MAX;
+
 impl Source {
-    /// Say what the list says next; past its end, stop the run.
-    fn say(&mut self, body: &str) -> MdxSignal {
+    /// Say what the list says next; past its end, stop the run. An error that
+    /// points past the body is said to be at `past`.
+    fn say(&mut self, body: &str, past: usize) -> MdxSignal {
         let verdict = self.verdicts.get(self.bodies.len()).copied();
         self.bodies.push(body.into());
         let ours = || Box::new(reading::OURS.into());
@@ -160,10 +167,11 @@ impl Source {
                 Box::new(reading::VERDICT_EOF.into()),
             ),
             Some(Verdict::Error { number, offset }) => {
-                self.pointed_past |= offset >= body.len();
+                let is_past = offset >= body.len();
+                self.pointed_past |= is_past;
                 MdxSignal::Error(
                     number.to_string(),
-                    offset,
+                    if is_past { past } else { offset },
                     ours(),
                     Box::new(reading::VERDICT_ERROR.into()),
                 )
@@ -202,10 +210,12 @@ impl Judge {
             source,
             asking: ParseOptions {
                 constructs: constructs(),
+                // Where no place is found, the crate takes the byte that asked.
                 mdx_expression_parse: Some(Box::new(move |body, _| {
-                    for_expressions.borrow_mut().say(body)
+                    for_expressions.borrow_mut().say(body, NOWHERE)
                 })),
-                mdx_esm_parse: Some(Box::new(move |body| for_esm.borrow_mut().say(body))),
+                // Here it would panic; the run is outside, whatever is said.
+                mdx_esm_parse: Some(Box::new(move |body| for_esm.borrow_mut().say(body, 0))),
             },
             counting: ParseOptions {
                 constructs: constructs(),
@@ -225,14 +235,11 @@ impl Judge {
     ///
     /// Panics where the crate does.
     pub fn judge(&self, scan: &Scan) -> Outcome {
-        if let Some(why) = domain::forbids_case(scan) {
-            return Outcome::outside(why);
+        let why = domain::forbids_case(scan).or_else(|| domain::forbids_run(self, scan));
+        match why {
+            Some(why) => Outcome::outside(why),
+            None => self.scan(scan),
         }
-        let outcome = self.scan(scan);
-        if let Some(why) = domain::forbids_run(self, scan, &outcome) {
-            return Outcome::outside(why);
-        }
-        outcome
     }
 
     /// Run the crate.
@@ -263,7 +270,11 @@ impl Judge {
         };
         let mut tokenizer = Tokenizer::new(point_at(&parse_state, scan.start), &parse_state);
         let message = run(&mut tokenizer, scan);
-        outcome(&tokenizer, &message, self.source.take())
+        let source = self.source.take();
+        if source.pointed_past && scan.construct == Construct::Esm {
+            return Outcome::outside("a verdict points past a body of ESM");
+        }
+        outcome(&tokenizer, &message, source)
     }
 }
 
@@ -280,12 +291,6 @@ fn begins(scan: &Scan) -> bool {
 
 /// What a run came to that a message stopped.
 fn outcome(tokenizer: &Tokenizer, message: &Message, source: Source) -> Outcome {
-    if source.pointed_past {
-        return Outcome::outside("a verdict points past its body");
-    }
-    if tokenizer.events.iter().any(|event| event.point.vs > 0) {
-        return Outcome::outside("an event lies inside a tab");
-    }
     Outcome {
         answer: reading::answer(message, (&tokenizer.point).into(), source.bodies.last()),
         events: tokenizer
@@ -295,6 +300,7 @@ fn outcome(tokenizer: &Tokenizer, message: &Message, source: Source) -> Outcome 
                 exit: event.kind == EventKind::Exit,
                 name: event.name.clone() as usize,
                 place: (&event.point).into(),
+                passed: event.point.vs,
             })
             .collect(),
         bodies: source.bodies,

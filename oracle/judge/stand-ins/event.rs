@@ -10,11 +10,11 @@ use crate::unist;
 pub struct Point {
     /// Line, from 1.
     pub line: usize,
-    /// Column, from 1; a tab goes on to the next multiple of four.
+    /// Column, from 1; a tab goes on to the next stop of four.
     pub column: usize,
     /// Byte offset in the page.
     pub index: usize,
-    /// How much of a tab at `index` is passed already.
+    /// How many columns of a tab at `index` are passed already.
     pub vs: usize,
 }
 

@@ -135,7 +135,8 @@ impl Case {
 }
 
 /// Write `ANSWER | events +NAME@PLACE -NAME@PLACE ..`, where a place is
-/// `OFFSET:LINE:COLUMN`, in the answer too.
+/// `OFFSET:LINE:COLUMN`, in the answer too. `~V` follows the place of an event
+/// at which V columns of an unfinished tab are passed.
 pub fn push_outcome(line: &mut String, judge: &Judge, outcome: &Outcome) {
     match &outcome.answer {
         Answer::Done { end } => write!(line, "Done {end}"),
@@ -157,6 +158,9 @@ pub fn push_outcome(line: &mut String, judge: &Judge, outcome: &Outcome) {
         line.push_str(if event.exit { " -" } else { " +" });
         line.push_str(judge.label(event));
         write!(line, "@{}", event.place).expect("write to a string");
+        if event.passed > 0 {
+            write!(line, "~{}", event.passed).expect("write to a string");
+        }
     }
 }
 
@@ -201,7 +205,7 @@ fn verdict(text: &str) -> Option<Verdict> {
 }
 
 /// Bytes from hexadecimal digits; `-` is no bytes.
-pub fn from_hex(text: &str) -> Option<Vec<u8>> {
+fn from_hex(text: &str) -> Option<Vec<u8>> {
     if text == "-" {
         return Some(vec![]);
     }

@@ -2,8 +2,7 @@
 //! settings. A sample is chosen by this.
 
 use crate::case::Case;
-use crate::columns::line_before;
-use judge::{Answer, Call, Construct, Judge, Outcome, Place, Verdict, STATES};
+use judge::{Answer, Call, Construct, Judge, Mark, Outcome, Place, Verdict, STATES};
 use std::collections::BTreeSet;
 
 /// Everything that a case reaches, in words.
@@ -11,6 +10,8 @@ use std::collections::BTreeSet;
 pub struct Reach {
     /// Steps of the machine: a state, the byte that it meets, what comes next.
     pub steps: Vec<String>,
+    /// Tabs that a prefix ends inside.
+    pub tabs: Vec<String>,
     /// Everything else.
     pub others: Vec<String>,
     pub calls: Vec<Call>,
@@ -21,6 +22,7 @@ pub fn reach(case: &Case, judge: &Judge, outcome: &Outcome) -> Reach {
     let calls = calls(case, judge);
     Reach {
         steps: step_words(case, outcome, &calls),
+        tabs: tab_words(case, judge, outcome),
         others: other_words(case, judge, outcome),
         calls,
     }
@@ -52,6 +54,59 @@ fn step_words(case: &Case, outcome: &Outcome, calls: &[Call]) -> Vec<String> {
     steps.sort();
     steps.dedup();
     steps
+}
+
+/// The tabs that a prefix ends inside: how many columns of the last two it took
+/// in each expression, what follows them, in what pieces they are passed, and
+/// what comes of a verdict behind them.
+fn tab_words(case: &Case, judge: &Judge, outcome: &Outcome) -> Vec<String> {
+    let mut words = vec![];
+    let mut expression = "";
+    let mut taken = (0, 0);
+    for event in &outcome.events {
+        let label = judge.label(event);
+        if !event.exit && label.ends_with("expression") {
+            expression = label;
+            taken = (0, 0);
+        } else if event.exit && event.passed > 0 {
+            taken = (taken.1, event.passed);
+            let tab = format!("{} {expression} {taken:?}", mode_word(case));
+            let pieces = case.allowance.map(|d| d.min(4));
+            words.push(format!("{tab} then {}", after_tab_words(case, event)));
+            words.push(format!("{tab} in pieces of {pieces:?}"));
+        }
+    }
+    if let Some(asked) = outcome.events.last().filter(|_| taken.1 > 0) {
+        let verdict = tab_verdict_words(case, outcome, asked);
+        words.extend(verdict.map(|verdict| format!("{expression} {taken:?} {verdict}")));
+    }
+    words.sort();
+    words.dedup();
+    words
+}
+
+/// The byte after a tab, as the states of an expression tell bytes apart.
+fn after_tab_words(case: &Case, event: &Mark) -> String {
+    match case.page.get(event.place.offset + 1) {
+        Some(byte) if !b"\t\n {}".contains(byte) => "data".into(),
+        byte => byte_words(byte.copied()),
+    }
+}
+
+/// What a verdict is asked about, or where an error is placed: in the body seen
+/// from its end, in the page seen from the byte that asked, where the last
+/// event stands.
+fn tab_verdict_words(case: &Case, outcome: &Outcome, asked: &Mark) -> Option<String> {
+    let body = outcome.bodies.last()?.len();
+    match (&outcome.answer, case.verdicts.last()) {
+        (Answer::Asking { .. }, _) => Some(format!("asking about {} bytes", body.min(9))),
+        (Answer::VerdictError { place, .. }, Some(Verdict::Error { offset, .. })) => {
+            let before = (asked.place.offset + 1).saturating_sub(place.offset);
+            let rest = body.saturating_sub(*offset);
+            Some(format!("error {} and {}", rest.min(7), before.min(7)))
+        }
+        _ => None,
+    }
 }
 
 fn other_words(case: &Case, judge: &Judge, outcome: &Outcome) -> Vec<String> {
@@ -108,19 +163,19 @@ fn past_words(case: &Case, outcome: &Outcome) -> Option<String> {
 /// Where the answer and each event stand, so that all of them are met on
 /// several lines and in every sort of column.
 fn place_words(case: &Case, judge: &Judge, outcome: &Outcome) -> BTreeSet<String> {
-    let stand = |what: &str, place: &Place| format!("{what} on {}", stand_words(&case.page, place));
-    let mut answer = outcome.answer.clone();
-    let what = answer_words(&answer);
-    let told = answer.place_mut().map(|place| stand(&what, place));
+    let stand = |what: &str, place| format!("{what} on {}", stand_words(&case.page, place));
+    let what = answer_words(&outcome.answer);
+    let told = outcome.answer.place().map(|place| stand(&what, place));
     let events = outcome.events.iter().map(|event| {
         let sign = if event.exit { '-' } else { '+' };
-        stand(&format!("{sign}{}", judge.label(event)), &event.place)
+        let label = judge.label(event);
+        stand(&format!("{sign}{label}~{}", event.passed), event.place)
     });
     events.chain(told).collect()
 }
 
 /// The line of a place, up to the third, and what its column counts.
-fn stand_words(page: &[u8], place: &Place) -> String {
+fn stand_words(page: &[u8], place: Place) -> String {
     let before = line_before(page, place.offset);
     let column = if before.is_empty() {
         "first"
@@ -132,6 +187,13 @@ fn stand_words(page: &[u8], place: &Place) -> String {
         "later"
     };
     format!("line {}, column {column}", place.line.min(3))
+}
+
+/// The bytes between the start of an offset's line and the offset.
+fn line_before(page: &[u8], offset: usize) -> &[u8] {
+    let before = &page[..offset];
+    let line_feed = before.iter().rposition(|byte| *byte == b'\n');
+    &before[line_feed.map_or(0, |at| at + 1)..]
 }
 
 fn mode_word(case: &Case) -> char {

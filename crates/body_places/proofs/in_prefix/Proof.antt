@@ -1,5 +1,4 @@
 use Rattle.base.proofs.Choice.{picks}
-use borrow.Author.Needs.{needs}
 use Rattle.body_places.proofs.in_prefix.Statement.{statement}
 use Rattle.body_places.proofs.in_prefix.Tie as tie
 
@@ -7,7 +6,5 @@ pub in-prefix-spec : {M : Type 1} → statement M
 in-prefix-spec =
     tie.close
     (tie.spec
-    (λ c. search picks depth 12)
-    (λ c κs. search needs)
     (λ c. search picks depth 12)
     (λ c. search picks depth 12))

@@ -26,4 +26,4 @@ put-one-spec =
     (λ c. search needs)
     (λ c.
     let a = c .before .before .before .args in
-    rw (c .before .kind-word .ensures, c .point-of .ensures) (one-written (a .words .now) (a .k) (a .here) (a .past) (a .mark))))
+    rw (c .kind-word .ensures, c .before .point-of .ensures) (one-written (a .words .now) (a .k) (a .here) (a .past) (a .mark))))

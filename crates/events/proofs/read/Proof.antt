@@ -2,10 +2,12 @@ use Prim.Native.Nat.{_+_, _*_}
 use native.Mathlib.Omega.{arith}
 use borrow.Author.Needs.{needs}
 use lib.ListN.{List·getD-eq-default}
+use Rattle.base.specs.If.{if_then_else_}
 use Rattle.events.proofs.read.Statement.{statement}
 use Rattle.events.proofs.read.Tie as tie
 
 pub read-spec : {M : Type 1} → statement M
+unfolding if_then_else_
 read-spec =
     tie.close
     (tie.spec
@@ -21,4 +23,5 @@ read-spec =
     (λ c κs. search needs)
     (λ c. search needs)
     (λ c κs. search needs)
-    (λ c. rw (c .before .before .before .word-at .ensures, c .before .before .word-at2 .ensures, c .before .word-at3 .ensures, c .word-at4 .ensures)))
+    (λ c κs. search needs)
+    (λ c. rw (c .in-tab .ensures, c .before .before .before .before .word-at .ensures, c .before .before .before .word-at2 .ensures, c .before .before .word-at3 .ensures, c .before .word-at4 .ensures)))

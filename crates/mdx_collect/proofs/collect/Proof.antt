@@ -18,7 +18,8 @@ returns-2 c =
 copied-requires : tie.Need-copied-requires
 copied-requires c κs =
     let a = c .before .before .before .before .before in
-    asks _ _ (sym (a .before .is-asked .ensures) ∙ not-false _ (a .if1 .left)) .at
+    let k = asks _ _ (sym (a .before .is-asked .ensures) ∙ not-false _ (a .if1 .left)) in
+    (k .at, k .short)
 
 returns-3 : tie.Need-returns-3
 returns-3 c =

@@ -1,5 +1,4 @@
 use Rattle.base.proofs.Choice.{picks}
-use borrow.Author.Needs.{needs}
 use Rattle.mdx_expression.proofs.prefix_goes_on.Statement.{statement}
 use Rattle.mdx_expression.proofs.prefix_goes_on.Tie as tie
 
@@ -7,7 +6,5 @@ pub prefix-goes-on-spec : {M : Type 1} → statement M
 prefix-goes-on-spec =
     tie.close
     (tie.spec
-    (λ c. search picks depth 12)
-    (λ c κs. search needs)
     (λ c. search picks depth 12)
     (λ c. search picks depth 12))

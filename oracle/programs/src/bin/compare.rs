@@ -9,13 +9,7 @@
 //! Steps are not the crate's and aren't compared. At Nok the crate takes its
 //! events back, so there only the answer is. What the oracle calls `Outside`
 //! is counted and not compared. Leaves with status 1 where something differs.
-//!
-//! Offset and line of every place must be the crate's, and so must its column,
-//! unless a tab precedes it on its line: there ours must be the one in bytes
-//! (`columns.rs`).
 
-use programs::case::from_hex;
-use programs::columns::behind_tab;
 use std::fs::File;
 use std::io::{self, BufRead, BufReader};
 use std::process::ExitCode;
@@ -64,8 +58,6 @@ struct Counts {
     with_events: u64,
     outside: u64,
     differ: u64,
-    /// Columns that were held against the page and not against the crate.
-    in_bytes: u64,
     /// The first difference, and the one with the shortest case.
     first: Option<String>,
     smallest: Option<(usize, String)>,
@@ -108,10 +100,6 @@ fn say(counts: &Counts, digest: bool) {
         let smallest = counts.smallest.as_ref().map(|d| d.1.as_str());
         println!("smallest: {}", smallest.unwrap_or("none"));
     }
-    println!(
-        "{} columns behind a tab, held against the page",
-        counts.in_bytes
-    );
     let alone = counts.compared - counts.with_events;
     println!(
         "{} cases: {} compared with their events, {alone} in the answer alone, \
@@ -216,13 +204,8 @@ fn judge<'a>(expected: &'a str, actual: &'a str, counts: &mut Counts) -> Option<
     if theirs.answer == "Panic" {
         return differ("the crate panicked");
     }
-    let page = page_with_tab(theirs.case);
-    let mut apart = |theirs, ours| match &page {
-        None if theirs == ours => None,
-        page => first_apart(theirs, ours, page.as_deref(), &mut counts.in_bytes),
-    };
-    if apart(theirs.answer, ours.answer).is_some() {
-        return differ(why("answers", theirs.answer, ours.answer));
+    if theirs.answer != ours.answer {
+        return differ("answers");
     }
     if theirs.answer == "Nok" {
         return None;
@@ -231,68 +214,26 @@ fn judge<'a>(expected: &'a str, actual: &'a str, counts: &mut Counts) -> Option<
     let (Some(events), Some(our_events)) = (theirs.events, ours.events) else {
         return differ("events");
     };
-    let (expected, actual) = apart(events, our_events)?;
+    if events == our_events {
+        return None;
+    }
+    let (expected, actual) = first_apart(events, our_events);
     Some(Difference {
-        why: why("events", expected, actual),
+        why: "events",
         expected,
         actual,
     })
 }
 
-/// What to call a difference: the same words can be one, behind a tab.
-fn why(what: &'static str, expected: &str, actual: &str) -> &'static str {
-    if expected == actual {
-        "the crate's column behind a tab"
-    } else {
-        what
-    }
-}
-
-/// The page of a case, if it has a tab. Without one every column must be the
-/// crate's, and what is written can be compared as it is.
-fn page_with_tab(case: &str) -> Option<Vec<u8>> {
-    let page = case.split(' ').nth(5)?;
-    let mut bytes = page.as_bytes().chunks_exact(2);
-    bytes.any(|byte| byte == b"09").then(|| from_hex(page))?
-}
-
-/// The first words of two answers, or of two lists of events, that don't
-/// agree.
-fn first_apart<'a>(
-    expected: &'a str,
-    actual: &'a str,
-    page: Option<&[u8]>,
-    in_bytes: &mut u64,
-) -> Option<(&'a str, &'a str)> {
+/// The first words of two lists of events that differ.
+fn first_apart<'a>(expected: &'a str, actual: &'a str) -> (&'a str, &'a str) {
     let (mut theirs, mut ours) = (expected.split(' '), actual.split(' '));
     loop {
         match (theirs.next(), ours.next()) {
-            (None, None) => return None,
-            (Some(theirs), Some(ours)) if agree(theirs, ours, page, in_bytes) => {}
-            (theirs, ours) => return Some((theirs.unwrap_or("none"), ours.unwrap_or("none"))),
+            (Some(theirs), Some(ours)) if theirs == ours => {}
+            (theirs, ours) => return (theirs.unwrap_or("none"), ours.unwrap_or("none")),
         }
     }
-}
-
-/// Whether two words agree. Those with a place are `OFFSET:LINE:COLUMN` and
-/// `+NAME@OFFSET:LINE:COLUMN`.
-fn agree(expected: &str, actual: &str, page: Option<&[u8]>, in_bytes: &mut u64) -> bool {
-    let column = page.and_then(|page| {
-        let offset = offset_in(expected).filter(|d| *d <= page.len())?;
-        behind_tab(page, offset)
-    });
-    let (Some(column), Some((line, _))) = (column, expected.rsplit_once(':')) else {
-        return expected == actual;
-    };
-    *in_bytes += 1;
-    actual.rsplit_once(':') == Some((line, &*column.to_string()))
-}
-
-/// The offset in a word, if it has a place.
-fn offset_in(word: &str) -> Option<usize> {
-    let place = word.rsplit('@').next()?;
-    let (offset, _) = place.split_once(':')?;
-    offset.parse().ok()
 }
 
 /// Take `CASE => ANSWER [| steps N] [| events ..]` apart.

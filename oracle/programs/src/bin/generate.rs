@@ -15,6 +15,7 @@ sets:
   tags         every tag over small alphabets
   expressions  every expression over small alphabets
   esm          every ESM over small alphabets
+  tabs         every page of expressions, alone and in tags, with tabs
   valid        valid constructs by chance
   broken       constructs by chance, with errors worked in
   all          all of these
@@ -23,12 +24,12 @@ options:
   --seed N     seed of chance (1)
   --count N    how many cases each of `valid` and `broken` draws (100000)
   --longest N  their longest construct, about, in bytes (4096)
-  --depth N    letters after the beginning in `tags`, `expressions`, `esm` (5)
+  --depth N    letters after the beginning in `tags`, `expressions`, `esm`, `tabs` (5)
   --every N    write one of N cases, and pass over the others (1)
   --allowances have each case run in pieces (`allowance=`, by chance)
 ";
 
-const SETS: [&str; 9] = [
+const SETS: [&str; 10] = [
     "settled",
     "large",
     "starts",
@@ -36,6 +37,7 @@ const SETS: [&str; 9] = [
     "tags",
     "expressions",
     "esm",
+    "tabs",
     "valid",
     "broken",
 ];
@@ -119,6 +121,7 @@ fn put<W: Write>(sink: &mut Sink<W>, set: &str, options: &Options) -> io::Result
         "tags" => exhaustive::tags(sink, options.depth),
         "expressions" => exhaustive::expressions(sink, options.depth),
         "esm" => exhaustive::esm(sink, options.depth),
+        "tabs" => exhaustive::tabs(sink, options.depth),
         "valid" => random::all(sink, options.count, options.longest, false),
         "broken" => random::all(sink, options.count, options.longest, true),
         _ => unreachable!("sets are checked before"),

@@ -1,6 +1,7 @@
 //! Reads cases on standard input and writes the crate's answers:
 //! `CASE => ANSWER | events +NAME@OFFSET:LINE:COLUMN -NAME@OFFSET:LINE:COLUMN ..`,
-//! with the crate's own lines and columns.
+//! with the crate's own lines and columns, and `~V` after an event's column
+//! where V columns of an unfinished tab are passed.
 //!
 //! A line that isn't a case answers `BadLine`. A case whose run the crate does
 //! not decide (document 01, "Domain") answers `Outside (why)`. A panic inside

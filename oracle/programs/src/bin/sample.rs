@@ -5,15 +5,9 @@
 //! taken before does; then, round after round, what was reached once, twice
 //! and so on, until there are as many lines as asked for. Leaves with status 1
 //! if a state of the judge's modules is not reached.
-//!
-//! Lines and columns are the crate's own, but for columns behind a tab: those
-//! are counted in bytes here, as the product counts them (`columns.rs`). The
-//! product compares what is recorded by its text, so it has to be written as
-//! the product must write it.
 
 use judge::{Answer, Call, Judge, STATES};
 use programs::case::{push_outcome, Case};
-use programs::columns::count_bytes;
 use programs::reach::{answer_words, reach};
 use std::collections::{BTreeMap, BTreeSet, HashMap};
 use std::io::{self, BufRead, BufWriter, Write};
@@ -31,10 +25,18 @@ struct Candidate {
     length: usize,
     answer: String,
     calls: BTreeSet<(usize, Option<u8>)>,
-    /// Numbers of what it reaches: steps, and everything else.
+    /// Numbers of what it reaches: steps, tabs that end a prefix inside them,
+    /// and everything else.
     steps: Vec<u32>,
+    tabs: Vec<u32>,
     others: Vec<u32>,
     taken: bool,
+}
+
+impl Candidate {
+    fn reached(&self) -> impl Iterator<Item = &u32> {
+        self.steps.iter().chain(&self.tabs).chain(&self.others)
+    }
 }
 
 /// Numbers for words.
@@ -110,6 +112,7 @@ fn read(judge: &Judge, numbers: &mut Numbers) -> io::Result<Vec<Candidate>> {
             answer: answer_words(&outcome.answer),
             calls: reached.calls.iter().map(met).collect(),
             steps: numbers.of(reached.steps),
+            tabs: numbers.of(reached.tabs),
             others: numbers.of(reached.others),
             taken: false,
         });
@@ -118,16 +121,17 @@ fn read(judge: &Judge, numbers: &mut Numbers) -> io::Result<Vec<Candidate>> {
 }
 
 fn answered(case: &Case, judge: &Judge) -> (judge::Outcome, String) {
-    let mut outcome = case.judge(judge);
-    count_bytes(&case.page, &mut outcome);
+    let outcome = case.judge(judge);
     let mut line = case.line();
     line.push_str(" => ");
     push_outcome(&mut line, judge, &outcome);
     (outcome, line)
 }
 
-/// Take the candidates. After the first round only steps count, and only
-/// short lines that have events to compare: long ones are there to be long.
+/// Take the candidates. After the first round only steps and tabs count, and
+/// only short lines that have events to compare: long ones are there to be long.
+/// A prefix that ends inside a tab takes the events of two lines, so for a tab a
+/// short line may be three times as long.
 fn choose(candidates: &mut [Candidate], words: usize, lines: usize, short: usize) {
     let mut order: Vec<usize> = (0..candidates.len()).collect();
     order.sort_by_key(|index| (candidates[*index].length, *index));
@@ -140,18 +144,18 @@ fn choose(candidates: &mut [Candidate], words: usize, lines: usize, short: usize
             let candidate = &mut candidates[*index];
             let rare = |number: &u32| counts[*number as usize] < round;
             let wanted = if round == 1 {
-                candidate.steps.iter().chain(&candidate.others).any(rare)
+                candidate.reached().any(rare)
             } else {
-                candidate.steps.iter().any(rare)
-                    && candidate.length <= short
-                    && candidate.answer != "Nok"
+                let by_step = candidate.length <= short && candidate.steps.iter().any(rare);
+                let by_tab = candidate.length <= 3 * short && candidate.tabs.iter().any(rare);
+                candidate.answer != "Nok" && (by_step || by_tab)
             };
             if candidate.taken || !wanted {
                 continue;
             }
             candidate.taken = true;
             taken += 1;
-            for number in candidate.steps.iter().chain(&candidate.others) {
+            for number in candidate.reached() {
                 counts[*number as usize] += 1;
             }
             if round > 1 && taken >= lines {

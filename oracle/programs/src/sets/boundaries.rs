@@ -8,7 +8,7 @@ use judge::{Construct, Kind, Verdict};
 use std::io::{self, Write};
 
 /// Small pages whose answers settle the definition.
-const SETTLED: [(Construct, &str); 56] = [
+const SETTLED: [(Construct, &str); 67] = [
     // Bench cases.
     (Expression, "{}"),
     (Expression, "{a}"),
@@ -53,6 +53,19 @@ const SETTLED: [(Construct, &str); 56] = [
     // Lines of an expression.
     (Expression, "{a\n  b}"),
     (Expression, "{a\n   \n}"),
+    // Tabs at their heads: a prefix that ends inside one, and one that doesn't.
+    (Expression, "{\n\t}"),
+    (Expression, "{\n \t}"),
+    (Expression, "{\n  \t}"),
+    (Expression, "{\n\t\t}"),
+    (Expression, "{\n\ta}b}"),
+    (Expression, "{\n \t\n\ta}\n \tb}"),
+    (Expression, "{\n\t"),
+    (Expression, "{\t}"),
+    (Tag, "<a {\n\tb}\t/>"),
+    (Tag, "<a b={\n \tc}\t/>"),
+    // Tabs in a quoted value.
+    (Tag, "<a\tb=\"\tc\n\td\te\"\t/>"),
     // Slashes, notes, names.
     (Tag, "</a/>"),
     (Tag, "</ a>"),
@@ -141,6 +154,8 @@ fn tags_of(size: usize) -> Vec<String> {
         format!("<a {}{}>", many("{"), many("}")),
         format!("<a {{{}}}>", many("b")),
         format!("</{}a{}>", many(" "), many("\n ")),
+        format!("<a {{{}}}/>", parts("\n\tb")),
+        format!("<a b={{{}}}\t/>", parts("\n \t")),
     ]
 }
 
@@ -157,6 +172,10 @@ fn expressions_of(size: usize) -> Vec<String> {
         format!("{{{}}}", parts("a\n  ")),
         format!("{{{}}}", parts("\n   b")),
         format!("{{{}}}", many(" ")),
+        format!("{{{}}}", many("\t")),
+        format!("{{{}}}", parts("\n\t")),
+        format!("{{{}}}", parts("\n \ta\tb")),
+        format!("{{{}}}", parts("\n\t}")),
     ]
 }
 

@@ -48,12 +48,35 @@ const ESM: [Family; 3] = [
     ("import", &["s", " ", "\n", "\t", "A", "1", "{"], 0),
 ];
 
+/// What stands in expressions whose lines begin with tabs.
+const LINES: &[&str] = &["{", "}", "\n", "\t", " ", "a"];
+
+/// The same in a tag that can end.
+const LINES_IN_A_TAG: &[&str] = &["{", "}", "\n", "\t", " ", "a", "}/>"];
+
+/// What stands before the start, how the construct begins, what it goes on
+/// with, and how much less far than asked.
+const TABS: [(&str, &str, &[&str], usize); 9] = [
+    ("", "{", LINES, 0),
+    ("", "<a {", LINES_IN_A_TAG, 1),
+    ("", "<a b={", LINES_IN_A_TAG, 1),
+    // Starts behind tabs.
+    ("\t", "{", LINES, 2),
+    (" \t", "{", LINES, 2),
+    ("\n\ta\t", "{", LINES, 2),
+    ("   \t", "<a {", LINES_IN_A_TAG, 3),
+    ("é\t\t", "<a b={", LINES_IN_A_TAG, 3),
+    ("\t", "<a b='", &["'", " ", "\n", "\t", "c", "/", ">"], 2),
+];
+
 /// Tags in both modes.
 pub fn tags<W: Write>(sink: &mut Sink<W>, depth: usize) -> io::Result<()> {
     for (begin, alphabet, further) in TAGS {
         for asks in [false, true] {
             let mut case = Case::new(Construct::Tag, asks, begin);
-            grow(sink, &mut case, alphabet, depth + further, 3)?;
+            grow(sink, &mut case, alphabet, depth + further, |sink, case| {
+                sink.put_all(case, 3)
+            })?;
         }
     }
     Ok(())
@@ -64,7 +87,9 @@ pub fn expressions<W: Write>(sink: &mut Sink<W>, depth: usize) -> io::Result<()>
     for (begin, alphabet, further) in EXPRESSIONS {
         for asks in [false, true] {
             let mut case = Case::new(Construct::Expression, asks, begin);
-            grow(sink, &mut case, alphabet, depth + further, 4)?;
+            grow(sink, &mut case, alphabet, depth + further, |sink, case| {
+                sink.put_all(case, 4)
+            })?;
         }
     }
     Ok(())
@@ -75,26 +100,48 @@ pub fn expressions<W: Write>(sink: &mut Sink<W>, depth: usize) -> io::Result<()>
 pub fn esm<W: Write>(sink: &mut Sink<W>, depth: usize) -> io::Result<()> {
     for (begin, alphabet, further) in ESM {
         let mut case = Case::new(Construct::Esm, true, begin);
-        grow(sink, &mut case, alphabet, depth + further, 4)?;
+        grow(sink, &mut case, alphabet, depth + further, |sink, case| {
+            sink.put_all(case, 4)
+        })?;
     }
     Ok(())
 }
 
-/// Write a case, and all longer ones.
+/// Tabs everywhere, and first of all where they open a line of an expression,
+/// with errors at every byte of the bodies and past them.
+pub fn tabs<W: Write>(sink: &mut Sink<W>, depth: usize) -> io::Result<()> {
+    for (before, begin, alphabet, fewer) in TABS {
+        let construct = match begin {
+            "{" => Construct::Expression,
+            _ => Construct::Tag,
+        };
+        for asks in [false, true] {
+            let mut case = Case::new(construct, asks, [before, begin].concat());
+            case.start = before.len();
+            let depth = depth.saturating_sub(fewer);
+            grow(sink, &mut case, alphabet, depth, |sink, case| {
+                sink.put_everywhere(case, 3)
+            })?;
+        }
+    }
+    Ok(())
+}
+
+/// Write a case with lists of verdicts, as `put` does, and all longer ones.
 fn grow<W: Write>(
     sink: &mut Sink<W>,
     case: &mut Case,
     alphabet: &[&str],
     depth: usize,
-    most: usize,
+    put: fn(&mut Sink<W>, &mut Case) -> io::Result<bool>,
 ) -> io::Result<()> {
     case.kind = kind_for(&case.page);
-    let open = sink.put_all(case, most)? || case.construct == Construct::Esm;
+    let open = put(sink, case)? || case.construct == Construct::Esm;
     if open && depth > 0 {
         let len = case.page.len();
         for letter in alphabet {
             case.page.extend_from_slice(letter.as_bytes());
-            grow(sink, case, alphabet, depth - 1, most)?;
+            grow(sink, case, alphabet, depth - 1, put)?;
             case.page.truncate(len);
         }
     }

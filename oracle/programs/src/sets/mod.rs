@@ -2,7 +2,8 @@
 //!
 //! Every case is run through the judge before it is written. So cases outside
 //! document 01's domain are left out, verdicts are only given where the run
-//! asks for them, and an error points at a byte that the body has.
+//! asks for them, and an error points at a byte that the body has, or, in the
+//! set `tabs`, past it.
 
 pub mod boundaries;
 pub mod exhaustive;
@@ -88,14 +89,29 @@ impl<W: Write> Sink<W> {
     /// Tells whether some run came to the end of the page, so that a longer
     /// page could make a difference.
     pub fn put_all(&mut self, case: &mut Case, most: usize) -> io::Result<bool> {
+        self.put_lists(case, most, some_offsets)
+    }
+
+    /// The same, with errors at every byte of a body and past it.
+    pub fn put_everywhere(&mut self, case: &mut Case, most: usize) -> io::Result<bool> {
+        self.put_lists(case, most, |len| (0..len + 2).collect())
+    }
+
+    /// The same, with errors at the offsets that are given for a length.
+    fn put_lists(
+        &mut self,
+        case: &mut Case,
+        most: usize,
+        offsets: fn(usize) -> Vec<usize>,
+    ) -> io::Result<bool> {
         let outcome = self.put(case)?;
         match outcome.map(|d| d.answer) {
             Some(Answer::Asking { body, .. }) => {
                 let mut open = false;
                 if case.verdicts.len() < most {
-                    for verdict in verdicts(case.verdicts.len(), body.len()) {
+                    for verdict in verdicts(case.verdicts.len(), offsets(body.len())) {
                         case.verdicts.push(verdict);
-                        open |= self.put_all(case, most)?;
+                        open |= self.put_lists(case, most, offsets)?;
                         case.verdicts.pop();
                     }
                 }
@@ -141,15 +157,20 @@ impl<W: Write> Sink<W> {
     }
 }
 
+/// A few offsets in a body.
+fn some_offsets(body_len: usize) -> Vec<usize> {
+    if body_len == 0 {
+        return vec![];
+    }
+    let mut offsets = vec![0, body_len / 2, body_len - 1];
+    offsets.dedup();
+    offsets
+}
+
 /// Verdicts to try on a body, after `before` others.
-fn verdicts(before: usize, body_len: usize) -> Vec<Verdict> {
+fn verdicts(before: usize, offsets: Vec<usize>) -> Vec<Verdict> {
     let number = before as u32 + 1;
     let mut verdicts = vec![Verdict::Ok, Verdict::Unfinished { number }];
-    let mut offsets = vec![];
-    if body_len > 0 {
-        offsets = vec![0, body_len / 2, body_len - 1];
-        offsets.dedup();
-    }
     verdicts.extend(offsets.into_iter().map(|offset| Verdict::Error {
         number: 100 + number,
         offset,

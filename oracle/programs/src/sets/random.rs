@@ -206,8 +206,7 @@ impl Page<'_> {
             match self.chance.below(14) {
                 0 | 1 => {
                     self.push("\n");
-                    let indent = " ".repeat(self.chance.below(5));
-                    self.push(&indent);
+                    self.indent();
                 }
                 2 | 3 => {
                     self.push("{");
@@ -218,8 +217,7 @@ impl Page<'_> {
                     depth -= 1;
                 }
                 5 if self.asks => self.push("}"),
-                // A tab, but not in the white space that opens a line.
-                6 => self.push("a\tb"),
+                6 => self.push("\t"),
                 7 => self.push("\""),
                 _ => self.word(),
             }
@@ -248,6 +246,14 @@ impl Page<'_> {
     fn blank(&mut self) {
         for _ in 0..self.chance.below(4) {
             self.push_one(&[" ", "\t"]);
+        }
+    }
+
+    /// What a line of an expression opens with: a prefix ends before a tab,
+    /// inside it or behind it.
+    fn indent(&mut self) {
+        for _ in 0..self.chance.below(5) {
+            self.push_one(&[" ", " ", "\t"]);
         }
     }
 

@@ -6,7 +6,7 @@ use crate::case::Case;
 use judge::{Construct, Kind};
 use std::io::{self, Write};
 
-const PAGES: [&str; 17] = [
+const PAGES: [&str; 19] = [
     "",
     "\n",
     "a",
@@ -25,6 +25,9 @@ const PAGES: [&str; 17] = [
     "a < b > c { d } <e> / <f g=h> <i@j> {k",
     // Lines that begin behind tabs, blank lines and longer characters.
     "é{a\tb}\t<c\n\td=\"é\n\"/>\n\nimport e\n\n \t\n\nexport é\n\n\n",
+    // Lines of expressions that open with tabs, behind tabs.
+    "\t{a\n\tb}\t{c\n \td}\n \t{\n  \te\t}",
+    "\t<a {\n\tb}\tc={\n \td}/>\n  \t<e\n\t{\n\t\tf}\t/>",
 ];
 
 /// Every start of each page, for every construct, mode, kind and flag.

@@ -9,7 +9,7 @@ use std::io::{self, Write};
 /// Pages after which each state of a tag meets the next byte, in the order of
 /// the Rust module.
 #[rustfmt::skip]
-const TAGS: [&str; 84] = [
+const TAGS: [&str; 88] = [
     // Start, and after `<`, with the white space that may stand there.
     "", "<", "<\u{b}", "<\u{c} ", "<\u{b}\n", "<\u{b}\n ",
     // Closing tag.
@@ -32,6 +32,7 @@ const TAGS: [&str; 84] = [
     "<a b=\"\"", "<a b=\"c\" ", "<a b='c'\n",
     // Expressions.
     "<a {", "<a{b", "<a {b\n ", "<a {}", "<a{b}", "<a {b} ", "<a b={", "<a b={c\n  ", "<a b={c}",
+    "<a {b\n\t", "<a {b\n \t", "<a b={c\n\t", "<a b={c\n \t",
 ];
 
 #[rustfmt::skip]
@@ -40,14 +41,15 @@ const AFTER_TAGS: [&str; 12] = [
 ];
 
 #[rustfmt::skip]
-const EXPRESSIONS: [&str; 18] = [
+const EXPRESSIONS: [&str; 25] = [
     "", "{", "{a", "{ ", "{\n", "{a\n", "{a\n ", "{a\n  ", "{a\n   ", "{\n\n", "{\n \n", "{{", "{{a",
     "{{}", "{{a\n  ", "{a{b}", "{é", "{é\n ",
+    "{\t", "{\n\t", "{a\n\t", "{a\n \t", "{a\n  \t", "{a\n\t\t", "{{a\n\t",
 ];
 
 #[rustfmt::skip]
-const AFTER_EXPRESSIONS: [&str; 9] = [
-    "", "}", "a}", "}}", "{}}", "\n}", "\n  b}", " \n   \n }", "}\n}",
+const AFTER_EXPRESSIONS: [&str; 11] = [
+    "", "}", "a}", "}}", "{}}", "\n}", "\n  b}", " \n   \n }", "}\n}", "\n\tb}", "\t\n \t}",
 ];
 
 #[rustfmt::skip]

@@ -9,43 +9,29 @@ sign-requires c κs = search needs
 kind-name-requires : tie.Need-kind-name-requires
 kind-name-requires c κs = search needs
 
-slice-aggregate-joined : tie.Need-slice-aggregate-joined
-slice-aggregate-joined c = search needs
+slice-aggregate-point : tie.Need-slice-aggregate-point
+slice-aggregate-point c = search needs
 
-cast-joined : tie.Need-cast-joined
-cast-joined c = search needs
+slice-aggregate-point-2 : tie.Need-slice-aggregate-point-2
+slice-aggregate-point-2 c = search needs
 
-joined-requires : tie.Need-joined-requires
-joined-requires c κs = search needs
+point-requires : tie.Need-point-requires
+point-requires c κs = search needs
 
-slice-aggregate-joined-2 : tie.Need-slice-aggregate-joined-2
-slice-aggregate-joined-2 c = search needs
+slice-aggregate-in-tab : tie.Need-slice-aggregate-in-tab
+slice-aggregate-in-tab c = search needs
 
-cast-joined-2 : tie.Need-cast-joined-2
-cast-joined-2 c = search needs
-
-joined-requires-2 : tie.Need-joined-requires-2
-joined-requires-2 c κs = search needs
-
-slice-aggregate-joined-3 : tie.Need-slice-aggregate-joined-3
-slice-aggregate-joined-3 c = search needs
-
-cast-joined-3 : tie.Need-cast-joined-3
-cast-joined-3 c = search needs
-
-joined-requires-3 : tie.Need-joined-requires-3
-joined-requires-3 c κs = search needs
+in-tab-requires : tie.Need-in-tab-requires
+in-tab-requires c κs = search needs
 
 same-length : tie.Need-same-length
 same-length c = search needs
 
 returns : tie.Need-returns
 returns c =
-    let signed = c .before .before .before .before .before .before .before .before .before .before .before .before .before .before .before .before .before .before .before .before .before .before .before .before .sign .ensures in
-    let named = then-put _ _ _ _ signed (c .before .before .before .before .before .before .before .before .before .before .before .before .before .before .before .before .before .before .before .before .kind-name .ensures) in
-    let column = then-put _ _ _ _ (c .before .before .before .before .before .before .before .before .joined2 .ensures .1) (c .before .before .joined3 .ensures .1) in
-    let where-it-is = then-put _ _ _ _ (c .before .before .before .before .before .before .before .before .before .before .before .before .before .before .joined .ensures .1) column in
-    let put = then-put _ _ _ _ named where-it-is in
+    let named = then-put _ _ _ _ (c .before .before .before .before .before .before .before .before .before .before .before .before .before .before .before .before .before .sign .ensures) (c .before .before .before .before .before .before .before .before .before .before .before .before .before .kind-name .ensures) in
+    let there = then-put _ _ _ _ (c .before .before .before .before .before .before .before .point .ensures) (c .before .before .in-tab .ensures) in
+    let put = then-put _ _ _ _ named there in
     (within-put _ _ _ put, put)
 
 pub event-mark-spec : {M : Type 1} → statement M
@@ -54,14 +40,10 @@ event-mark-spec =
     (tie.spec
     sign-requires
     kind-name-requires
-    slice-aggregate-joined
-    cast-joined
-    joined-requires
-    slice-aggregate-joined-2
-    cast-joined-2
-    joined-requires-2
-    slice-aggregate-joined-3
-    cast-joined-3
-    joined-requires-3
+    slice-aggregate-point
+    slice-aggregate-point-2
+    point-requires
+    slice-aggregate-in-tab
+    in-tab-requires
     same-length
     returns)

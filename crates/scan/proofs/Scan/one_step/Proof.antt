@@ -15,7 +15,7 @@ use Rattle.scan.proofs.Scan.one_step.Tie as tie
 lines-after-requires : tie.Need-lines-after-requires
 lines-after-requires c κs =
     let a = c .before .before .before .before .before .before in
-    (omega (arith, a .pre .fit .at, a .pre .fit .short), a .pre .byte)
+    (a .pre .fit .short, a .pre .byte)
 
 moved-requires : tie.Need-moved-requires
 moved-requires c κs =
@@ -66,7 +66,7 @@ put-events-requires c κs =
 lines-after-requires-2 : tie.Need-lines-after-requires-2
 lines-after-requires-2 c κs =
     let a = c .before .before .before .before .before .before .before .before .before .before .before .before in
-    (omega (arith, a .pre .fit .at, a .pre .fit .short), a .pre .byte)
+    (a .pre .fit .short, a .pre .byte)
 
 moved-requires-3 : tie.Need-moved-requires-3
 moved-requires-3 c κs =

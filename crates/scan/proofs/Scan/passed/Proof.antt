@@ -8,5 +8,6 @@ passed-spec =
     (tie.spec
     (λ c κs. search needs)
     (λ c κs. search needs)
+    (λ c κs. search needs)
     (λ c. search needs)
-    (λ c. rw (c .before .count-steps .ensures, c .before .before .step-bound .ensures)))
+    (λ c. rw (c .before .before .before .before .before .passed-lines .ensures, c .before .count-steps .ensures, c .before .before .step-bound .ensures)))

@@ -1,13 +1,13 @@
 use native.Mathlib.Omega.{arith}
 use borrow.Author.Needs.{needs}
-use Rattle.scan.proofs.Steps.{past-small}
+use Rattle.scan.proofs.Steps.{past-low}
 use Rattle.scan.proofs.Scan.put_events.Statement.{statement}
 use Rattle.scan.proofs.Scan.put_events.Tie as tie
 
 point-in-requires-2 : tie.Need-point-in-requires-2
 point-in-requires-2 c κs =
     let a = c .before .before .before .before .before in
-    (rw (c .line-past .ensures) (past-small (a .args .self .lines .line) (a .args .self .tokenizer .at) (a .args .b) (a .pre .0)), omega (arith, a .pre .1))
+    (rw (c .line-past .ensures) (past-low (a .args .self .lines .line) (a .args .b) (a .pre .0)), omega (arith, a .pre .1))
 
 returns : tie.Need-returns
 returns c =
@@ -20,7 +20,7 @@ put-events-spec =
     tie.close
     (tie.spec
     (λ c κs. let a = c .before .before .before in (a .pre .0, omega (arith, a .pre .1)))
-    (λ c κs. omega (arith, c .before .before .before .before .pre .1))
+    (λ c κs. search needs)
     (λ c. search needs)
     point-in-requires-2
     (λ c κs. c .before .before .before .before .before .before .before .pre .2)

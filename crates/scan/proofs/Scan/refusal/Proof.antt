@@ -10,7 +10,7 @@ use Rattle.scan.proofs.Scan.refusal.Tie as tie
 unlisted : tie.Need-returns-5
 unfolding refusal
 unlisted c =
-    let s = c .before .before .before .before .before .before .before .args .self in
+    let s = c .before .before .before .before .before .before .before .before .args .self in
     c .verdict-refusal .ensures ∙ not-found (s .tokenizer .state) (pageAnswers s) _ (c .before .match .rest)
 
 pub refusal-spec : {M : Type 1} → statement M

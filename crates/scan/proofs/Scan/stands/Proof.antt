@@ -17,7 +17,7 @@ refused : tie.Need-returns-5
 unfolding answerOf
 refused c =
     let k = c .before in
-    let s = k .before .before .before .before .before .before .args .self in
+    let s = k .before .before .before .before .before .before .before .args .self in
     if-no _ _ _ _ _ (lt-leb 32 _ (k .before .if1 .left)) (c .refusal .ensures ∙ not-found (s .tokenizer .state) (endAnswers s) _ (k .match .rest))
 
 pub stands-spec : {M : Type 1} → statement M

@@ -9,7 +9,7 @@ use Rattle.scan.proofs.Scan.verdict_refusal.Tie as tie
 unlisted : tie.Need-returns-3
 unfolding verdictRefusal
 unlisted c =
-    let s = c .before .before .before .before .before .args .self in
+    let s = c .before .before .before .before .before .before .args .self in
     not-found (s .tokenizer .state) (verdictAnswers s) _ (c .match .rest)
 
 pub verdict-refusal-spec : {M : Type 1} → statement M
@@ -20,6 +20,6 @@ verdict-refusal-spec =
     (λ c κs. search needs)
     (λ c κs. search needs)
     (λ c κs. search needs)
-    (λ c. rw (c .before .match .keys1, c .spot-in .ensures, c .before .before .tally .ensures))
+    (λ c. rw (c .before .before .match .keys1, c .spot-in .ensures, c .before .before .before .tally .ensures))
     (λ c. rw (c .before .match .keys2, c .spot-in2 .ensures, c .before .before .tally .ensures))
     unlisted)

@@ -7,4 +7,5 @@ plain-data-spec =
     tie.close
     (tie.spec
     (λ c. search picks depth 12)
+    (λ c. search picks depth 12)
     (λ c. search picks depth 12))

@@ -1,6 +1,5 @@
-use mathlib.Core.Path.{refl}
+use Rattle.base.proofs.Choice.{picks}
 use borrow.Author.Needs.{needs}
-use Rattle.base.proofs.Choice.{if-yes, if-no}
 use Rattle.scan.proofs.lines.line_next.Statement.{statement}
 use Rattle.scan.proofs.lines.line_next.Tie as tie
 
@@ -9,5 +8,5 @@ line-next-spec =
     tie.close
     (tie.spec
     (λ c κs. search needs)
-    (λ c. if-yes _ _ _ _ _ (c .before .if1 .taken) (c .line-past .ensures))
-    (λ c. if-no _ _ _ _ _ (c .if1 .left) refl))
+    (λ c. search picks depth 12)
+    (λ c. search picks depth 12))

@@ -1,6 +1,5 @@
 use borrow.Author.Needs.{needs}
 use borrow.Author.Tests.{eq-eqb, ne-eqb}
-use mathlib.Core.Path.{refl}
 use Rattle.base.proofs.Choice.{if-yes, if-no}
 use Rattle.scan.proofs.lines.line_past.Statement.{statement}
 use Rattle.scan.proofs.lines.line_past.Tie as tie
@@ -10,6 +9,6 @@ line-past-spec =
     tie.close
     (tie.spec
     (λ c κs. search needs)
-    (λ c. search needs)
-    (λ c. if-yes _ _ _ _ _ (eq-eqb _ 10 (c .before .if1 .taken)) (rw (c .counted .ensures .0)))
-    (λ c. if-no _ _ _ _ _ (ne-eqb _ 10 (c .if1 .left)) refl))
+    (λ c. if-yes _ _ _ _ _ (eq-eqb _ 10 (c .before .if1 .taken)) (rw (c .counted .ensures)))
+    (λ c κs. search needs)
+    (λ c. if-no _ _ _ _ _ (ne-eqb _ 10 (c .before .if1 .left)) (rw (c .column-past .ensures))))
