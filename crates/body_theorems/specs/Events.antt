@@ -12,8 +12,8 @@ use Rattle.base.specs.declared.InTab.the-variants.{Outside}
 use Rattle.body_places.specs.Body.{Cell, cellsAt, bytesOf, spaces, bytesFrom}
 use Rattle.events.specs.declared.Event.{Event}
 
--- What stands between two points of the page, the first of which is v columns inside a tab: `util/slice.rs`. The rest of that tab is 4 - v
--- spaces: "If we have virtual spaces before, it means we are past the actual character at that index, and those virtual spaces."
+-- What stands between two points of the page, the first of which is v columns inside a tab: `util/slice.rs`. The tab's own byte is then behind
+-- that point already, and 4 - v spaces stand for what is left of it.
 unfoldable pub sliceOf : List ℕ → ℕ → ℕ → ℕ → List ℕ
 sliceOf page from v to =
     if eqb v 0 then bytesFrom page from (to - from)

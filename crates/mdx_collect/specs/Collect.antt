@@ -1,9 +1,9 @@
 -- The body that an asking scan hands over, read from page and state alone.
 --
 -- docs/SCOPE.md, 'Body': "The data and line endings in order, without line prefixes, a tab of which a prefix takes V columns as 4 - V spaces. The
--- reader gets back a part of the page when no prefix stands between two of its bytes, else a part of the lent scratch it was copied to. It is asked of a state that is Asking, its page
--- inside the lent bytes, else 12, and read from page and state alone. Scratch too short, where needed: 12, scratch untouched; past the
--- copy it stays as lent."
+-- reader gets back a part of the page when no prefix stands between two of its bytes, else a part of the lent scratch it was copied to. It is
+-- asked of a state that is Asking, its page inside the lent bytes, else 12, and read from page and state alone. Scratch too short, where needed:
+-- 12, scratch untouched; past the copy it stays as lent."
 --
 -- The crate collects the events (`util/mdx_collect.rs`). That what is said here is the same, for every scan that calls gave, is the theorem
 -- `the-body-is-what-the-events-say` of crate `body_theorems`.
