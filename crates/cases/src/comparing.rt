@@ -6,15 +6,15 @@ use report::Told;
 // The number of the answer Nok.
 const NOK: u8 = 1;
 
-// Room for the text of one event or number.
-const PIECE_ROOM: usize = 256;
+// Room for the text of one event, answer or number.
+pub(crate) const PIECE_ROOM: usize = 256;
 
 // Whether the parts that are recorded from a place on are those of the answer. At Nok an empty list of events says nothing, since
 // the crate takes its events back there.
 pub(crate) fn agrees(line: &[u8], from: usize, told: Told, answer: &[u8], words: &[u32]) -> bool {
     let mut piece = [0u8; PIECE_ROOM];
     let at = eat(line, from, answer);
-    let at = eat_steps(line, at, told.steps, &mut piece);
+    let at = eat_steps(line, at, b" | steps", told.steps, &mut piece);
     let at = eat(line, at, b" | events");
     if at == 0 {
         return false;
@@ -45,17 +45,34 @@ pub(crate) fn eat(line: &[u8], from: usize, word: &[u8]) -> usize {
     0
 }
 
-// The steps need not be recorded.
-fn eat_steps(line: &[u8], from: usize, steps: usize, piece: &mut [u8]) -> usize {
-    let at = eat(line, from, b" | steps");
+// The word and the steps behind it, which need not be recorded.
+pub(crate) fn eat_steps(
+    line: &[u8],
+    from: usize,
+    word: &[u8],
+    steps: usize,
+    piece: &mut [u8],
+) -> usize {
+    let at = eat(line, from, word);
     if at == 0 {
         return from;
     }
-    let count = report::spaced(piece, 0, steps);
-    eat(line, at, &piece[0..count])
+    eat_number(line, at, steps, piece)
 }
 
-fn eat_events(line: &[u8], from: usize, words: &[u32], count: usize, piece: &mut [u8]) -> usize {
+// A space and the number.
+pub(crate) fn eat_number(line: &[u8], from: usize, number: usize, piece: &mut [u8]) -> usize {
+    let count = report::spaced(piece, 0, number);
+    eat(line, from, &piece[0..count])
+}
+
+pub(crate) fn eat_events(
+    line: &[u8],
+    from: usize,
+    words: &[u32],
+    count: usize,
+    piece: &mut [u8],
+) -> usize {
     let most = events::room::held(count, words.len());
     let mut place = from;
     let mut k = 0;

@@ -1,15 +1,25 @@
-// Runs single scans: each line of standard input is a case. The answer is written behind the case; where an answer is recorded
-// on the line, it is compared, and both are written only if they differ.
+// Runs single scans and lists of them: each line of standard input is a case, or a list of jobs on one page. The answer is written
+// behind it; where an answer is recorded on the line, it is compared, and both are written only if they differ.
+mod behind;
 mod body;
+mod case_lines;
 mod comparing;
 mod lines;
+mod list_comparing;
+mod list_lines;
+mod list_pieces;
+mod list_reading;
+mod list_recorded;
+mod list_telling;
+mod list_writing;
 mod reading;
 mod recorded;
+mod run;
 mod running;
 
-use lines::fresh_run;
 use lines::one_turn;
 use lines::put_totals;
+use run::fresh_run;
 
 // Room for the longest line, a page, a body, the words of six events for each byte and the page's end, an answer with its body in
 // hex, and what is about to be written.

@@ -1,4 +1,5 @@
 // A case as it stands on a line, its page in hex and its verdicts in a comma list.
+use crate::comparing::eat;
 use text::Hex;
 use text::Letters;
 use text::Parsed;
@@ -91,11 +92,11 @@ fn read_verdicts(line: &[u8], from: usize, case: Case) -> ReadCase {
     c.verdicts_end = end;
     if text::is_word(line, from, end, b"-") {
         c.verdicts = end;
-        return read_room(line, end + 1, c);
+        return with_room(line, end + 1, c);
     }
     if all_verdicts(line, from, end) {
         c.verdicts = from;
-        return read_room(line, end + 1, c);
+        return with_room(line, end + 1, c);
     }
     ReadCase::Bad
 }
@@ -137,19 +138,24 @@ fn is_none(read: ReadVerdict) -> bool {
     }
 }
 
-fn read_room(line: &[u8], from: usize, case: Case) -> ReadCase {
-    let mark = text::find(line, from, b'=');
-    if !text::is_word(line, from, mark, b"room") {
-        return read_allowance(line, from, case);
-    }
-    match text::read_number(line, mark + 1) {
+fn with_room(line: &[u8], from: usize, case: Case) -> ReadCase {
+    match read_room(line, from) {
         ReadNumber::Field { number, next } => {
             let mut c = case;
             c.room = number;
             read_allowance(line, next, c)
         }
-        ReadNumber::NoField => ReadCase::Bad,
+        ReadNumber::NoField => read_allowance(line, from, case),
     }
+}
+
+// `room=` and how many events fit.
+pub(crate) fn read_room(line: &[u8], from: usize) -> ReadNumber {
+    let at = eat(line, from, b"room=");
+    if at == 0 {
+        return ReadNumber::NoField;
+    }
+    text::read_number(line, at)
 }
 
 // The line may have ended before.

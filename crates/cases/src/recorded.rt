@@ -24,13 +24,21 @@ const PLACE_AND_BODY: u8 = 5;
 
 pub(crate) fn is_answer(line: &[u8], from: usize) -> bool {
     let at = after_answer(line, from);
-    let steps = eat(line, at, b"| steps ");
-    let at = if steps == 0 {
-        at
-    } else {
-        after_number(line, steps)
-    };
-    let at = eat(line, at, b"| events");
+    let at = after_steps(line, at, b"| steps ");
+    ends_in_events(line, at)
+}
+
+// The place past the word, the steps behind it and the space that follows; where the word does not stand there, the same place.
+pub(crate) fn after_steps(line: &[u8], from: usize, word: &[u8]) -> usize {
+    let steps = eat(line, from, word);
+    if steps == 0 {
+        return from;
+    }
+    after_number(line, steps)
+}
+
+pub(crate) fn ends_in_events(line: &[u8], from: usize) -> bool {
+    let at = eat(line, from, b"| events");
     if at == 0 {
         return false;
     }
@@ -38,7 +46,7 @@ pub(crate) fn is_answer(line: &[u8], from: usize) -> bool {
 }
 
 // The place past the answer and the space that follows it.
-fn after_answer(line: &[u8], from: usize) -> usize {
+pub(crate) fn after_answer(line: &[u8], from: usize) -> usize {
     let end = text::find(line, from, b' ');
     let next = end + 1;
     match values_of(line, from, end) {
@@ -77,7 +85,7 @@ fn is_place(line: &[u8], from: usize, to: usize) -> bool {
     is_number(text::decimal(line, second + 1, to))
 }
 
-fn after_number(line: &[u8], from: usize) -> usize {
+pub(crate) fn after_number(line: &[u8], from: usize) -> usize {
     if from == 0 {
         return 0;
     }

@@ -5,7 +5,7 @@
 --     admits-is   Good, with the line of the start: it is admitted, and its text is good
 use Prim.Native.Nat.{ℕ, _+_, _≤_, _<_}
 use native.Mathlib.Omega.{arith}
-use mathlib.Core.Path.{_≡_, refl, ap}
+use mathlib.Core.Path.{_≡_, refl, sym, ap, _∙_}
 use mathlib.Core.Logic.{_⊎_, _↔_, ⊎-elim, inl, inr}
 use mathlib.Core.List.{List}
 use borrow.Author.Tests.{ltb-true, ltb-false, leb-true, leb-false}
@@ -119,3 +119,15 @@ module _ (bytes : List ℕ) (at n start : ℕ) where
       goods : (r : Reading) → checkedBy page start r ≡ Good line → line ≡ lineAt page start
       goods good e = cc
       goods (fault p) e = let z : _≡_ {A = ℕ} 0 1 = cc in absurd (omega arith)
+
+  -- and no other spot: a spot that is answered has the line and the column of its place
+  pub fault-spot : (p : Spot) → pageCheck bytes at n start ≡ BadText p → (p ≡ spotAt page (p .place)) × Admitted bytes at n start
+  fault-spot p =
+      by-answers (λ (x : Checked). x ≡ BadText p → (p ≡ spotAt page (p .place)) × Admitted bytes at n start)
+      (λ h e. let z : _≡_ {A = ℕ} 0 1 = cc in absurd (omega arith))
+      (λ m e. let z : _≡_ {A = ℕ} 0 1 = cc in absurd (omega arith))
+      (λ a e. (faults (readText page) e, a))
+    where
+      faults : (r : Reading) → checkedBy page start r ≡ BadText p → p ≡ spotAt page (p .place)
+      faults good e = let z : _≡_ {A = ℕ} 0 1 = cc in absurd (omega arith)
+      faults (fault o) e = let z : spotAt page o ≡ p = cc in sym z ∙ ap (λ (k : ℕ). spotAt page k) (ap (λ (y : Spot). y .place) z)

@@ -6,3 +6,4 @@ pub mod Meaning
 pub mod Answers
 pub mod Lines
 pub mod Passing
+pub mod Rechecked

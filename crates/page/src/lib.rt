@@ -4,6 +4,7 @@ use crate::line::Line;
 use crate::line::Spot;
 use crate::line::anchor_past;
 use crate::line::first_line;
+use crate::line::line_by;
 use crate::line::line_from;
 use base::PAGE_LIMIT;
 use base::byte;
@@ -69,6 +70,38 @@ pub fn check(bytes: &[u8], at: usize, length: usize, start: usize) -> Checked
         return text(&bytes[at..end], start);
     }
     Checked::BadStart
+}
+
+// The check of a page for another start, where that for one is known: the text is not read again. Lines are counted on from `from` where
+// the start is not before it, and from the page's beginning where it is.
+pub fn recheck(
+    bytes: &[u8],
+    at: usize,
+    length: usize,
+    checked: Checked,
+    from: usize,
+    start: usize,
+) -> Checked
+    requires { ⌜ (checked ≡ pageCheck (now bytes) at length from) × (from ≤ length) ⌝ }
+    ensures { λ r. ⌜ r ≡ pageCheck (now (bytes .entry)) at length start ⌝ }
+{
+    match checked {
+        Checked::Good(line) => {
+            if length < start {
+                return Checked::BadStart;
+            }
+            let end = at + length;
+            Checked::Good(line_by(&bytes[at..end], line, from, start))
+        }
+        Checked::TooLong => Checked::TooLong,
+        Checked::BadStart => Checked::BadStart,
+        Checked::BadText(spot) => {
+            if length < start {
+                return Checked::BadStart;
+            }
+            Checked::BadText(spot)
+        }
+    }
 }
 
 // The text is at fault at a place with this line and column.

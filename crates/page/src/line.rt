@@ -95,16 +95,36 @@ pub(crate) fn anchor_past(anchor: Anchor, at: usize, b: u16) -> Anchor
     Anchor { line, from: at + 1 }
 }
 
-// The line and the column of a place, counted from the page's beginning; one past the page's end is the furthest.
-pub fn line_at(page: &[u8], place: usize) -> Line
-    requires { ⌜ (length (now page) ≤ pageLimit) × (place ≤ length (now page) + 1) ⌝ }
+// The line and the column of a place, counted on from those of an earlier one; one past the page's end is the furthest.
+pub fn line_on(page: &[u8], line: Line, from: usize, place: usize) -> Line
+    requires { ⌜ (length (now page) ≤ pageLimit) × (from ≤ place) × (place ≤ length (now page) + 1) × (line ≡ lineAt (now page) from) ⌝ }
     ensures { λ r. ⌜ r ≡ lineAt (now (page .entry)) place ⌝ }
 {
-    let mut line = first_line();
-    let mut at = 0;
+    let mut line = line;
+    let mut at = from;
     while at < place {
         line = passed(line, byte_at(page, at));
         at += 1;
     }
     line
+}
+
+// The line and the column of a place, counted from the page's beginning; one past the page's end is the furthest.
+pub fn line_at(page: &[u8], place: usize) -> Line
+    requires { ⌜ (length (now page) ≤ pageLimit) × (place ≤ length (now page) + 1) ⌝ }
+    ensures { λ r. ⌜ r ≡ lineAt (now (page .entry)) place ⌝ }
+{
+    line_on(page, first_line(), 0, place)
+}
+
+// The line and the column of a place, where those of another are known: counted on from it where the place is not before it, and from
+// the page's beginning where it is.
+pub(crate) fn line_by(page: &[u8], line: Line, from: usize, place: usize) -> Line
+    requires { ⌜ (length (now page) ≤ pageLimit) × (place ≤ length (now page) + 1) × (line ≡ lineAt (now page) from) ⌝ }
+    ensures { λ r. ⌜ r ≡ lineAt (now (page .entry)) place ⌝ }
+{
+    if place < from {
+        return line_at(page, place);
+    }
+    line_on(page, line, from, place)
 }

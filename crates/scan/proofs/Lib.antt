@@ -8,3 +8,4 @@ pub mod Saids
 pub mod ShortWay
 pub mod Singles
 pub mod Steps
+pub mod Wholes

@@ -3,7 +3,7 @@
 -- docs/SCOPE.md, 'The answer table': "12, 2, 3, 4, in that order, come before any step and write nothing." 'The worker' lists what 12 is
 -- given for: a number not listed in docs/, a state outside the ranges, a verdict nobody awaits or whose number is out of range, an
 -- allowance of 0, a single scan resumed when finished, without its verdict, or with a page or event buffer of another length.
-use Prim.Native.Nat.{ℕ, _%_}
+use Prim.Native.Nat.{ℕ, _+_, _-_, _*_, _%_}
 use mathlib.Core.Bool.{Bool, false, _&&_}
 use mathlib.Core.List.{List, []}
 use lib.ListN.{length}
@@ -184,3 +184,7 @@ unfoldable pub singleOf : List ℕ → ℕ → ℕ → ℕ → ℕ → ℕ → �
 singleOf bytes at n start construct kind flags allowance words =
     if ltb 0 allowance then ranFrom (beginOf bytes at n start construct kind flags (length words)) (pageOf bytes at n) allowance words
     else left noScan refused words
+
+-- a single scan with steps enough: 8(n+1), n counting from the start to the page's end, so that it never pauses
+abbrev pub wholeOf : List ℕ → ℕ → ℕ → ℕ → ℕ → ℕ → ℕ → List ℕ → Left
+wholeOf bytes at n start construct kind flags words = singleOf bytes at n start construct kind flags (8 * (n - start + 1)) words

@@ -5,6 +5,7 @@ use crate::Ran;
 use crate::Scan;
 use crate::lines::Lines;
 use crate::lines::lines_of;
+use crate::stepping::step_bound;
 use base::InTab;
 use base::Verdict;
 use base::state;
@@ -17,9 +18,12 @@ use tokenizer::Tokenizer;
 use tokenizer::ranges::construct_listed;
 use tokenizer::ranges::kind_listed;
 ghost use mathlib.Core.Path.{_≡_};
+ghost use Rattle.base.specs.If.{if_then_else_};
+ghost use Rattle.page.specs.Page.{pageCheck};
 ghost use Rattle.tokenizer.specs.Registers.{noRegs};
 ghost use Rattle.scan.specs.Lines.{firstLines};
-ghost use Rattle.scan.specs.Call.{begunBy, begunIf, numbersListed, firstState, freshIn, noScan, beginOf, leftBy, singleOf};
+ghost use Rattle.scan.specs.Answer.{refused};
+ghost use Rattle.scan.specs.Call.{notStarted, begunBy, begunIf, numbersListed, jobOf, firstState, freshIn, noScan, beginOf, leftBy, singleOf, wholeOf};
 
 // Flags: a verdict source, an interrupt, and both.
 pub const ASKS: u8 = 1;
@@ -64,6 +68,42 @@ fn begin_if_good(checked: Checked, job: Job) -> Began
         Checked::BadStart => Began::Refused(Answer::BadStart),
         Checked::BadText(spot) => Began::Refused(Answer::BadText { spot }),
     }
+}
+
+// What a scan has to do, by the numbers of docs/NUMBERS.md.
+fn job_of(length: usize, start: usize, construct: u8, kind: u8, flags: u8, words: usize) -> Job
+    ensures { λ r. ⌜ r ≡ jobOf construct kind flags length start words ⌝ }
+{
+    Job {
+        construct,
+        kind,
+        asks: flags % INTERRUPT == ASKS,
+        interrupt: INTERRUPT <= flags,
+        length,
+        start,
+        words,
+    }
+}
+
+// A new scan of a page whose check for this start is known.
+fn begin_checked(
+    checked: Checked,
+    length: usize,
+    start: usize,
+    construct: u8,
+    kind: u8,
+    flags: u8,
+    words: usize,
+) -> Began
+    ensures { λ r. ⌜ begunBy r ≡ (if numbersListed construct kind flags then begunIf checked (jobOf construct kind flags length start words) else notStarted refused) ⌝ }
+{
+    if numbers_listed(construct, kind, flags) {
+        return begin_if_good(
+            checked,
+            job_of(length, start, construct, kind, flags, words),
+        );
+    }
+    Began::Refused(Answer::BadCall)
 }
 
 // The lines of a scan that begins in a line: nothing is looked ahead yet.
@@ -168,6 +208,32 @@ pub fn single(
     }
 }
 
+// A single scan in one call with steps enough, of a page whose check for this start is known.
+pub fn whole(
+    checked: Checked,
+    bytes: &[u8],
+    at: usize,
+    length: usize,
+    start: usize,
+    construct: u8,
+    kind: u8,
+    flags: u8,
+    events: &mut [u32],
+) -> Ran
+    requires { ⌜ checked ≡ pageCheck (now bytes) at length start ⌝ }
+    ensures { λ r. ⌜ leftBy r (now (events .exit)) ≡ wholeOf (now (bytes .entry)) at length start construct kind flags (now (events .entry)) ⌝ }
+{
+    let began = begin_checked(checked, length, start, construct, kind, flags, events.len());
+    match began {
+        Began::Started(scan) => {
+            let end = at + length;
+            let allowance = step_bound(length, start);
+            scan.run(&bytes[at..end], events, allowance)
+        }
+        Began::Refused(answer) => not_begun(answer),
+    }
+}
+
 impl Scan {
     // A scan that has made no step, whose start is in a line.
     fn fresh(job: Job, line: Line) -> Self
@@ -205,15 +271,7 @@ impl Scan {
         ensures { λ r. ⌜ begunBy r ≡ beginOf (now (bytes .entry)) at length start construct kind flags words ⌝ }
     {
         if numbers_listed(construct, kind, flags) {
-            let job = Job {
-                construct,
-                kind,
-                asks: flags % INTERRUPT == ASKS,
-                interrupt: INTERRUPT <= flags,
-                length,
-                start,
-                words,
-            };
+            let job = job_of(length, start, construct, kind, flags, words);
             let checked = page::check(bytes, at, length, start);
             begin_if_good(checked, job)
         } else {

@@ -34,3 +34,5 @@ pub mod Endings
 pub mod ExactRows
 pub mod Sites
 pub mod TableAnswers
+pub mod Unasked
+pub mod Counting

@@ -1,3 +1,4 @@
+pub mod Counting
 pub mod Lines
 pub mod Rows
 pub mod Statement

@@ -41,13 +41,8 @@ impl Case {
     pub fn parse(line: &str) -> Option<Case> {
         let mut fields = line.split(' ');
         let mut case = Case {
-            construct: match fields.next()? {
-                "e" => Construct::Expression,
-                "t" => Construct::Tag,
-                "s" => Construct::Esm,
-                _ => return None,
-            },
-            kind: *one_of(fields.next()?, ["f", "t"], &[Kind::Flow, Kind::Text])?,
+            construct: construct(fields.next()?)?,
+            kind: kind(fields.next()?)?,
             asks: *one_of(fields.next()?, ["c", "v"], &[false, true])?,
             interrupt: *one_of(fields.next()?, ["0", "1"], &[false, true])?,
             start: decimal(fields.next()?)?,
@@ -74,15 +69,9 @@ impl Case {
     /// Write the line.
     pub fn line(&self) -> String {
         let mut line = String::with_capacity(2 * self.page.len() + 32);
-        line.push_str(match self.construct {
-            Construct::Expression => "e ",
-            Construct::Tag => "t ",
-            Construct::Esm => "s ",
-        });
-        line.push_str(match self.kind {
-            Kind::Flow => "f ",
-            Kind::Text => "t ",
-        });
+        let construct = construct_letter(self.construct);
+        let kind = kind_letter(self.kind);
+        write!(line, "{construct} {kind} ").expect("write to a string");
         line.push_str(if self.asks { "v " } else { "c " });
         line.push_str(if self.interrupt { "1 " } else { "0 " });
         write!(line, "{} ", self.start).expect("write to a string");
@@ -108,16 +97,23 @@ impl Case {
 
     /// What the crate makes of it.
     pub fn judge(&self, judge: &Judge) -> Outcome {
-        // Answers about room (10) are not the crate's: it has room for all.
-        let events_at_most = 6 * (self.page.len() + 1);
-        if self.room.is_some_and(|room| room < events_at_most) {
-            return Outcome {
-                answer: Answer::Outside { why: "little room" },
-                events: vec![],
-                bodies: vec![],
-            };
+        let outcome = judge.judge(&self.scan());
+        if self.room.is_none_or(|room| self.fits(&outcome, room)) {
+            return outcome;
         }
-        judge.judge(&self.scan())
+        Outcome {
+            answer: Answer::Outside { why: "little room" },
+            events: vec![],
+            bodies: vec![],
+        }
+    }
+
+    /// Whether room for so many events makes no difference to an outcome.
+    /// Answers about room (10) are not the crate's: it has room for all. At
+    /// Nok it takes its events back, so there only room for any run will do.
+    fn fits(&self, outcome: &Outcome, room: usize) -> bool {
+        let events_at_most = 6 * (self.page.len() + 1);
+        room >= events_at_most || outcome.answer != Answer::Nok && outcome.events.len() <= room
     }
 
     /// The scan that it asks for.
@@ -173,13 +169,45 @@ fn push_verdict(line: &mut String, verdict: &Verdict) {
     .expect("write to a string");
 }
 
+/// The construct that a letter stands for.
+pub fn construct(letter: &str) -> Option<Construct> {
+    match letter {
+        "e" => Some(Construct::Expression),
+        "t" => Some(Construct::Tag),
+        "s" => Some(Construct::Esm),
+        _ => None,
+    }
+}
+
+/// Its letter.
+pub fn construct_letter(construct: Construct) -> char {
+    match construct {
+        Construct::Expression => 'e',
+        Construct::Tag => 't',
+        Construct::Esm => 's',
+    }
+}
+
+/// The kind that a letter stands for.
+pub fn kind(letter: &str) -> Option<Kind> {
+    one_of(letter, ["f", "t"], &[Kind::Flow, Kind::Text]).copied()
+}
+
+/// Its letter.
+pub fn kind_letter(kind: Kind) -> char {
+    match kind {
+        Kind::Flow => 'f',
+        Kind::Text => 't',
+    }
+}
+
 /// What the word stands for, if it is one of two.
 fn one_of<'a, T>(word: &str, words: [&str; 2], things: &'a [T; 2]) -> Option<&'a T> {
     things.get(words.iter().position(|d| *d == word)?)
 }
 
 /// A decimal number: digits only.
-fn decimal(text: &str) -> Option<usize> {
+pub fn decimal(text: &str) -> Option<usize> {
     if text.is_empty() || !text.bytes().all(|d| d.is_ascii_digit()) {
         return None;
     }
@@ -205,7 +233,7 @@ fn verdict(text: &str) -> Option<Verdict> {
 }
 
 /// Bytes from hexadecimal digits; `-` is no bytes.
-fn from_hex(text: &str) -> Option<Vec<u8>> {
+pub fn from_hex(text: &str) -> Option<Vec<u8>> {
     if text == "-" {
         return Some(vec![]);
     }

@@ -1,6 +1,6 @@
 //! Writes sets of cases, the same ones for the same arguments.
 
-use programs::sets::{boundaries, exhaustive, random, starts, states, Sink};
+use programs::sets::{boundaries, exhaustive, lists, random, starts, states, Sink};
 use std::io::{self, BufWriter, Write};
 use std::process::ExitCode;
 
@@ -19,16 +19,21 @@ sets:
   valid        valid constructs by chance
   broken       constructs by chance, with errors worked in
   all          all of these
+  lists        lists of jobs, many openings of one page to a line
 
 options:
   --seed N     seed of chance (1)
-  --count N    how many cases each of `valid` and `broken` draws (100000)
-  --longest N  their longest construct, about, in bytes (4096)
+  --count N    how many cases each of `valid` and `broken` draws, or lists (100000)
+  --longest N  their longest construct, or a list's longest page, about, in bytes (4096)
   --depth N    letters after the beginning in `tags`, `expressions`, `esm`, `tabs` (5)
   --every N    write one of N cases, and pass over the others (1)
-  --allowances have each case run in pieces (`allowance=`, by chance)
+  --allowances have each single case run in pieces (`allowance=`, by chance)
 ";
 
+/// Lists of jobs, which only the product takes as such.
+const LISTS: &str = "lists";
+
+/// The sets of single cases.
 const SETS: [&str; 10] = [
     "settled",
     "large",
@@ -88,7 +93,7 @@ fn options() -> Option<Options> {
             "--every" => options.every = arguments.next()?.parse().ok()?,
             "--allowances" => options.allowances = true,
             "all" => options.sets.extend(SETS.map(String::from)),
-            set if SETS.contains(&set) => options.sets.push(set.into()),
+            set if set == LISTS || SETS.contains(&set) => options.sets.push(set.into()),
             _ => return None,
         }
     }
@@ -124,6 +129,7 @@ fn put<W: Write>(sink: &mut Sink<W>, set: &str, options: &Options) -> io::Result
         "tabs" => exhaustive::tabs(sink, options.depth),
         "valid" => random::all(sink, options.count, options.longest, false),
         "broken" => random::all(sink, options.count, options.longest, true),
+        LISTS => lists::all(sink, options.count, options.longest),
         _ => unreachable!("sets are checked before"),
     }
 }

@@ -1,18 +1,20 @@
-//! Sets of cases.
+//! Sets of cases, and of lists of jobs.
 //!
-//! Every case is run through the judge before it is written. So cases outside
+//! Every single case is run through the judge before it is written. So cases outside
 //! document 01's domain are left out, verdicts are only given where the run
 //! asks for them, and an error points at a byte that the body has, or, in the
 //! set `tabs`, past it.
 
 pub mod boundaries;
 pub mod exhaustive;
+pub mod lists;
 pub mod random;
 pub mod starts;
 pub mod states;
 
 use crate::case::Case;
 use crate::chance::Chance;
+use crate::list::List;
 use judge::{Answer, Judge, Kind, Outcome, Verdict};
 use std::io::{self, Write};
 use std::panic::{catch_unwind, AssertUnwindSafe};
@@ -63,15 +65,32 @@ impl<W: Write> Sink<W> {
             self.outside += 1;
             return Ok(());
         }
-        self.seen += 1;
-        if !self.seen.is_multiple_of(self.every) {
+        if !self.is_next() {
             return Ok(());
         }
-        self.written += 1;
         let mut line = case.line();
         if self.allowances {
             line.push_str(&format!(" allowance={}", 1 + self.chance.below(40)));
         }
+        self.write_line(line)
+    }
+
+    /// Write a list of jobs, which no crate judges as a whole.
+    pub fn put_list(&mut self, list: &List) -> io::Result<()> {
+        if self.is_next() {
+            self.write_line(list.line())?;
+        }
+        Ok(())
+    }
+
+    /// Whether what comes now is one of those that are written.
+    fn is_next(&mut self) -> bool {
+        self.seen += 1;
+        self.seen.is_multiple_of(self.every)
+    }
+
+    fn write_line(&mut self, mut line: String) -> io::Result<()> {
+        self.written += 1;
         line.push('\n');
         self.output.write_all(line.as_bytes())
     }

@@ -52,7 +52,7 @@ pub fn all<W: Write>(
 }
 
 /// A case with a valid construct.
-fn draw(chance: &mut Chance, longest: usize) -> Case {
+pub(super) fn draw(chance: &mut Chance, longest: usize) -> Case {
     // Sizes by powers of two: as many short pages as long ones.
     let size = 1 + chance.below_power(1 + longest.max(2).ilog2());
     let asks = chance.once_in(2);
@@ -283,7 +283,7 @@ impl Page<'_> {
 }
 
 /// Work an error in, or what may be one.
-fn change(chance: &mut Chance, case: &mut Case) {
+pub(super) fn change(chance: &mut Chance, case: &mut Case) {
     let page = &mut case.page;
     if page.is_empty() {
         return;
@@ -319,24 +319,26 @@ fn change(chance: &mut Chance, case: &mut Case) {
 
 /// Put other text before and after.
 fn embed(chance: &mut Chance, case: &mut Case) {
-    let mut around = |most: usize| {
-        let mut text = String::new();
-        for _ in 0..chance.below(most) {
-            match chance.below(8) {
-                0 => text.push('\n'),
-                1 => text.push('\t'),
-                2 => text.push(SHARP[chance.below(SHARP.len())] as char),
-                _ => text.push_str(chance.pick(&TEXT)),
-            }
-        }
-        text
-    };
-    let mut before = around(24);
-    let after = around(12);
+    let mut before = other_text(chance, 24);
+    let after = other_text(chance, 12);
     // ESM wants the start of a line.
     if case.construct == Construct::Esm && !chance.once_in(8) {
         before.push('\n');
     }
     case.start = before.len();
     case.page = [before.as_bytes(), &case.page, after.as_bytes()].concat();
+}
+
+/// Text that may stand beside a construct, of less than so many pieces.
+pub(super) fn other_text(chance: &mut Chance, pieces: usize) -> String {
+    let mut text = String::new();
+    for _ in 0..chance.below(pieces) {
+        match chance.below(8) {
+            0 => text.push('\n'),
+            1 => text.push('\t'),
+            2 => text.push(SHARP[chance.below(SHARP.len())] as char),
+            _ => text.push_str(chance.pick(&TEXT)),
+        }
+    }
+    text
 }

@@ -1,0 +1,4 @@
+pub mod Loops
+pub mod Rooms
+pub mod Answered
+pub mod Lent
