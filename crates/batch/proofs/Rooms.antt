@@ -4,7 +4,7 @@ use Prim.Native.Nat.{ℕ, _+_, _-_, _*_, _≤_}
 use native.Mathlib.Nat.{div-mul-le-self}
 use native.Mathlib.Omega.{arith}
 use mathlib.Core.Path.{_≡_, refl}
-use mathlib.Core.List.{List, [], _∷_}
+use mathlib.Core.List.{List}
 use lib.Dec.{ltb, leb, eqb}
 use lib.ListN.{length, take, drop, length-append, length-drop}
 use lib.Seq.{length-take-le}
@@ -12,7 +12,9 @@ use borrow.Author.Tests.{ltb-false}
 use Rattle.base.specs.If.{if_then_else_}
 use Rattle.base.specs.Table.{find}
 use Rattle.base.specs.State as state
+use Rattle.base.specs.State.{firstRunning}
 use Rattle.base.proofs.Choice.{if-is}
+use Rattle.base.proofs.Tables.{_&_, found}
 use Rattle.events.specs.Words.{width, roomIn}
 use Rattle.events.proofs.Laws.{written-long}
 use Rattle.page.specs.declared.Checked.{Checked}
@@ -20,13 +22,14 @@ use Rattle.page.specs.declared.Checked.the-variants as checked
 use Rattle.page.specs.Page.{pageOf, pageCheck}
 use Rattle.tokenizer.specs.declared.Job.{Job}
 use Rattle.scan.specs.declared.Scan.{Scan}
-use Rattle.scan.specs.Answer.{Said, said, placed, made, here, tallyOf, endAnswers, pageAnswers, verdictAnswers, verdictRefusal, refusal, answerOf, refused}
+use Rattle.scan.specs.Answer.{Said, endAnswers, pageAnswers, verdictAnswers, verdictRefusal, refusal, answerOf, refused}
 use Rattle.scan.specs.Scan.{runScan, runEvents}
 use Rattle.scan.specs.Call.{Left, left, jobOf, freshIn, numbersListed, noScan, Begun, begunIf, beginOf, runnable, runOf, ranFrom, singleOf}
 use Rattle.scan.proofs.Kept.{run-room}
 use Rattle.batch.specs.declared.Opening.{Opening}
 use Rattle.batch.specs.declared.turns.Look.{Look}
 use Rattle.batch.specs.declared.turns.Run.{Run}
+use Rattle.batch.specs.Record as field
 use Rattle.batch.specs.Record.{valueIn, carried, filledOf}
 use Rattle.batch.specs.Batch.{called, recordOf, wordsOf}
 use Rattle.batch.specs.Inner.{run, checkFor, openOf, knownAfter, afterOf, turnOf, Sound}
@@ -35,23 +38,13 @@ use Rattle.batch.specs.Inner.{run, checkFor, openOf, knownAfter, afterOf
 
 -- the field of a record that holds the events
 abbrev count : Said → ℕ
-count a = carried 5 a
+count a = carried field.events a
 
 no-more : (n : ℕ) → n ≤ n
 no-more n = omega arith
 
 none : (n : ℕ) → 0 ≤ n
 none n = omega arith
-
--- what holds of every row of a table, and of what stands behind it, holds of what is found
-abbrev Rows : (Said → Type 0) → List (ℕ × Said) → Type 0
-Rows P [] = Unit {0}
-Rows P (e ∷ es) = P (e .1) × Rows P es
-
-found : (P : Said → Type 0) (k : ℕ) (rows : List (ℕ × Said)) (d : Said) → Rows P rows → P d → P (find k rows d)
-unfolding find
-found P k [] d h p = p
-found P k (e ∷ es) d h p = if-is Said P (eqb k (e .0)) (e .1) (find k es d) (λ t. h .0) (λ t. found P k es d (h .1) p)
 
 -- a scan that stands somewhere answers with the events that it counts, or with none
 module _ (s : Scan) where
@@ -61,33 +54,19 @@ module _ (s : Scan) where
   abbrev Few : Said → Type 0
   Few a = count a ≤ n
 
-  few-ends : Rows Few (endAnswers s)
-  unfolding carried valueIn find if_then_else_
-  few-ends = (no-more n, (no-more n, (none n, tt)))
-
-  few-pages : Rows Few (pageAnswers s)
-  unfolding carried valueIn find if_then_else_
-  few-pages = (no-more n, (no-more n, (no-more n, (no-more n, tt))))
-
-  few-verdicts : Rows Few (verdictAnswers s)
-  unfolding carried valueIn find if_then_else_
-  few-verdicts = (none n, (none n, tt))
-
   few-refused : (m : ℕ) → count refused ≤ m
   unfolding carried valueIn find if_then_else_
   few-refused m = none m
 
-  few-paused : Few (said 32 (placed (here s) (made (tallyOf s))))
-  unfolding carried valueIn find if_then_else_
-  few-paused = none n
-
   few-events : Few (answerOf s)
-  unfolding answerOf refusal verdictRefusal
+  unfolding answerOf refusal verdictRefusal carried valueIn find if_then_else_
   few-events =
-      if-is Said Few (leb 32 (s .tokenizer .state)) _ _ (λ e. few-paused)
+      let k = s .tokenizer .state in
+      if-is Said Few (leb firstRunning k) _ _ (λ e. none n)
       (λ e.
-      found Few (s .tokenizer .state) (endAnswers s) _ few-ends
-      (found Few (s .tokenizer .state) (pageAnswers s) _ few-pages (found Few (s .tokenizer .state) (verdictAnswers s) refused few-verdicts (few-refused n))))
+      found Few k (endAnswers s) _ ((λ t. no-more n) & (λ t. no-more n) & (λ t. none n) & tt)
+      (found Few k (pageAnswers s) _ ((λ t. no-more n) & (λ t. no-more n) & (λ t. no-more n) & (λ t. no-more n) & tt)
+      (found Few k (verdictAnswers s) _ ((λ t. none n) & (λ t. none n) & tt) (none n))))
 
 -- ---- what a single call leaves
 

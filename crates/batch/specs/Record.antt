@@ -28,7 +28,7 @@ site = 3
 abbrev note : ℕ
 note = 4
 
-abbrev events : ℕ
+abbrev pub events : ℕ
 events = 5
 
 abbrev steps : ℕ

@@ -9,6 +9,7 @@ use mathlib.Core.List.{List, [], _++_}
 use lib.Dec.{leb, ltb}
 use lib.ListN.{length, drop}
 use lib.Seq.{take-length}
+use Rattle.base.proofs.Tables.{_&_, found}
 use Rattle.base.specs.If.{if_then_else_, among}
 use Rattle.base.specs.Table.{find}
 use Rattle.base.specs.State.{firstRunning}
@@ -28,8 +29,8 @@ use Rattle.scan.proofs.Kept.{run-room}
 use Rattle.scan.proofs.Pausing.{events-are-counted}
 use Rattle.scan_theorems.specs.Counting.{countingCallAnswers}
 use Rattle.scan_theorems.proofs.Tests.{clash}
-use Rattle.scan_theorems.proofs.EveryState.{_&_, found}
 use Rattle.batch.specs.declared.Opening.{Opening}
+use Rattle.batch.specs.Record as field
 use Rattle.batch.specs.Record.{valueIn, carried}
 use Rattle.batch.specs.Batch.{called}
 use Rattle.batch_theorems.specs.Statement.{begunEvents, openingEvents}
@@ -40,7 +41,7 @@ Given a = among countingCallAnswers (a .number) ≡ true
 
 -- the field of a record that holds the events
 abbrev count : Said → ℕ
-count a = carried 5 a
+count a = carried field.events a
 
 -- ---- the events that an answer carries
 

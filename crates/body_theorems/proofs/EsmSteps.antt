@@ -8,6 +8,7 @@ use mathlib.Core.List.{List, [], _∷_, _++_}
 use lib.Dec.{leb, eqb}
 use lib.ListN.{length}
 use borrow.Author.Tests.{lt-ltb}
+use Rattle.base.proofs.Tables.{_&_, Each}
 use Rattle.base.specs.If.{if_then_else_, among}
 use Rattle.base.proofs.Choice.{both}
 use Rattle.base.specs.Page.{byteAt, afterLineFeed}
@@ -32,7 +33,7 @@ use Rattle.tokenizer.specs.declared.Tokenizer.{Tokenizer}
 use Rattle.body_places.specs.Body.{Cell}
 use Rattle.body_places.proofs.Place.{place-in}
 use Rattle.scan_theorems.proofs.There.{byte-there, letter-there, word-there, line-there}
-use Rattle.scan_theorems.proofs.EveryState.{_&_, Each, ofEsm, of-every-esm-state}
+use Rattle.scan_theorems.proofs.EveryState.{ofEsm, of-every-esm-state}
 use Rattle.body_theorems.specs.Events.{Runs, collectOne}
 use Rattle.body_theorems.proofs.After.{tabThen, still-out, After, pick}
 use Rattle.body_theorems.proofs.Places.{part, part-joins, part-none, slice-outside}

@@ -9,6 +9,7 @@ use mathlib.Core.List.{List, [], _∷_, _++_}
 use lib.Dec.{leb, eqb}
 use lib.ListN.{length}
 use borrow.Author.Tests.{eqb-true, eqb-false, ne-eqb, leb-true}
+use Rattle.base.proofs.Tables.{_&_, found}
 use Rattle.base.specs.If.{if_then_else_}
 use Rattle.base.proofs.Choice.{if-is, case}
 use Rattle.base.specs.Range.{within}
@@ -25,7 +26,6 @@ use Rattle.mdx_expression.specs.Expression.{stops}
 use Rattle.tokenizer.specs.Moved.{firstJoint}
 use Rattle.tokenizer.specs.declared.Regs.{Regs}
 use Rattle.scan_theorems.proofs.Tests.{clash}
-use Rattle.scan_theorems.proofs.EveryState.{_&_, found}
 use Rattle.body_theorems.specs.Events.{Runs, sliceOf, runOf}
 use Rattle.body_theorems.proofs.After.{placeThen, tabThen, regsThen, runsThen, After}
 use Rattle.body_theorems.proofs.Places.{leftAt, driftHere, cells-grow, drift-grows, part, part-more, still}

@@ -8,6 +8,7 @@ use mathlib.Core.List.{List}
 use lib.Dec.{leb, eqb}
 use lib.ListN.{length}
 use borrow.Author.Tests.{eqb-true}
+use Rattle.base.proofs.Tables.{_&_, Each}
 use Rattle.base.specs.If.{if_then_else_}
 use Rattle.base.proofs.Choice.{case}
 use Rattle.base.specs.Range.{within}
@@ -20,7 +21,7 @@ use Rattle.tokenizer.specs.Decision.{expressionToken, expressionFault, expressi
 use Rattle.tokenizer.specs.Ranges.{isReturn}
 use Rattle.tokenizer.specs.declared.Regs.{Regs}
 use Rattle.tokenizer.specs.declared.Tokenizer.{Tokenizer}
-use Rattle.scan_theorems.proofs.EveryState.{_&_, Each, ofTags, of-every-tag-state}
+use Rattle.scan_theorems.proofs.EveryState.{ofTags, of-every-tag-state}
 use Rattle.body_theorems.specs.Events.{Runs}
 use Rattle.body_theorems.proofs.After.{After, pick}
 use Rattle.body_theorems.proofs.Kept.{Rest, Kept, aside, high-aside, in-tag, to-aside, to-end}

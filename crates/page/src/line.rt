@@ -96,7 +96,7 @@ pub(crate) fn anchor_past(anchor: Anchor, at: usize, b: u16) -> Anchor
 }
 
 // The line and the column of a place, counted on from those of an earlier one; one past the page's end is the furthest.
-pub fn line_on(page: &[u8], line: Line, from: usize, place: usize) -> Line
+pub(crate) fn line_on(page: &[u8], line: Line, from: usize, place: usize) -> Line
     requires { ⌜ (length (now page) ≤ pageLimit) × (from ≤ place) × (place ≤ length (now page) + 1) × (line ≡ lineAt (now page) from) ⌝ }
     ensures { λ r. ⌜ r ≡ lineAt (now (page .entry)) place ⌝ }
 {

@@ -8,6 +8,7 @@ use mathlib.Core.List.{List, [], _∷_}
 use lib.ListN.{length}
 use lib.Dec.{leb, ltb, eqb}
 use borrow.Author.Tests.{lt-ltb, ltb-true, lt-leb, eq-eqb}
+use Rattle.base.proofs.Tables.{_&_, found}
 use Rattle.base.specs.If.{if_then_else_, among}
 use Rattle.base.proofs.Choice.{if-is, case, and-yes, or-left, or-right, or-yes′}
 use Rattle.base.specs.Number as number
@@ -30,7 +31,6 @@ use Rattle.scan.proofs.Runs.{run-keeps}
 use Rattle.scan_theorems.specs.Counting.{countingAnswers, CountingEnds, countingCallAnswers, SingleCountingEnds}
 use Rattle.scan_theorems.specs.Statement.{answersOfScans}
 use Rattle.scan_theorems.proofs.Tests.{clash}
-use Rattle.scan_theorems.proofs.EveryState.{_&_, found}
 use Rattle.scan_theorems.proofs.Parts.{parts, low, high}
 use Rattle.scan_theorems.proofs.Fresh.{left-fresh}
 use Rattle.scan_theorems.proofs.Scans.{Within, within-step, within-fresh, within-range, run-ends}

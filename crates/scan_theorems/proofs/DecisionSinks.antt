@@ -3,6 +3,7 @@ use Prim.Native.Nat.{ℕ}
 use mathlib.Core.Path.{_≡_, refl}
 use mathlib.Core.Bool.{true}
 use mathlib.Core.List.{List}
+use Rattle.base.proofs.Tables.{_&_, Each}
 use Rattle.base.specs.If.{if_then_else_}
 use Rattle.base.specs.Range.{within}
 use Rattle.base.specs.Table.{find}
@@ -10,7 +11,7 @@ use Rattle.base.specs.declared.Move.{Move}
 use Rattle.tokenizer.specs.Decision.{tagToken, expressionToken, expressionFault, expressionStates, tagStates, attributeStates, decision}
 use Rattle.tokenizer.specs.Ranges.{isReturn}
 use Rattle.tokenizer.specs.declared.Tokenizer.{Tokenizer}
-use Rattle.scan_theorems.proofs.EveryState.{_&_, Each, ofTags, of-every-tag-state}
+use Rattle.scan_theorems.proofs.EveryState.{ofTags, of-every-tag-state}
 use Rattle.scan_theorems.proofs.Rank.{rank, returns}
 use Rattle.scan_theorems.proofs.Sinks.{Sinks, ends}
 use Rattle.scan_theorems.proofs.ExpressionSinks as expression

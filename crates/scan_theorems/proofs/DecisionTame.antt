@@ -5,6 +5,7 @@ use mathlib.Core.Bool.{Bool, true, false}
 use mathlib.Core.List.{List}
 use lib.Dec.{leb, eqb}
 use borrow.Author.Tests.{eqb-true}
+use Rattle.base.proofs.Tables.{_&_, Each}
 use Rattle.base.specs.If.{among}
 use Rattle.base.proofs.Choice.{if-is, case, both}
 use Rattle.base.specs.Byte.{quotationMark, apostrophe}
@@ -19,7 +20,7 @@ use Rattle.tokenizer.specs.Decision.{expressionStates, tagStates, attributeStat
 use Rattle.tokenizer.specs.Ranges.{isReturn, verdictInRange}
 use Rattle.tokenizer.specs.declared.Tokenizer.{Tokenizer}
 use Rattle.scan_theorems.proofs.Tests.{clash}
-use Rattle.scan_theorems.proofs.EveryState.{_&_, Each, ofTags, ofEsm, of-every-tag-state, of-every-esm-state}
+use Rattle.scan_theorems.proofs.EveryState.{ofTags, ofEsm, of-every-tag-state, of-every-esm-state}
 use Rattle.scan_theorems.proofs.Tame.{Tame, tame, either, return-stands, tames}
 
 -- the quotes that open a value are bytes

@@ -8,6 +8,7 @@ use mathlib.Core.List.{List}
 use lib.Dec.{leb, ltb, eqb}
 use lib.ListN.{length}
 use borrow.Author.Tests.{lt-ltb, leb-true}
+use Rattle.base.proofs.Tables.{_&_, Each}
 use Rattle.base.specs.If.{if_then_else_}
 use Rattle.base.proofs.Choice.{if-is, both}
 use Rattle.base.specs.Byte.{leftBrace}
@@ -34,7 +35,7 @@ use Rattle.scan.specs.Alone.{runAlone}
 use Rattle.scan_theorems.proofs.Tests.{clash}
 use Rattle.scan_theorems.proofs.There.{byte-there}
 use Rattle.body_places.proofs.Place.{place-in}
-use Rattle.scan_theorems.proofs.EveryState.{_&_, Each, ofTags, of-every-tag-state}
+use Rattle.scan_theorems.proofs.EveryState.{ofTags, of-every-tag-state}
 use Rattle.scan_theorems.proofs.Parts.{parts, low}
 use Rattle.scan.proofs.Kept.{step-job}
 use Rattle.scan_theorems.specs.Statement.{Heard, DepthCounted}

@@ -7,6 +7,7 @@ use mathlib.Core.Bool.{Bool, true, false, not, _&&_, _||_}
 use mathlib.Core.List.{List}
 use lib.Dec.{ltb, eqb}
 use borrow.Author.Tests.{ne-eqb, eqb-true}
+use Rattle.base.proofs.Tables.{_&_, Each}
 use Rattle.base.specs.Byte.{lineFeed, endOfPage}
 use Rattle.base.specs.If.{if_then_else_}
 use Rattle.base.proofs.Choice.{if-is, and-no, or-no, or-cases}
@@ -24,7 +25,7 @@ use Rattle.tokenizer.specs.Decision.{expressionStates, tagStates, attributeStat
 use Rattle.tokenizer.specs.Ranges.{isReturn}
 use Rattle.tokenizer.specs.declared.Tokenizer.{Tokenizer}
 use Rattle.scan_theorems.specs.Rows.{endMet, wayOn}
-use Rattle.scan_theorems.proofs.EveryState.{_&_, Each, ofTags, ofEsm, tag-state-decides, esm-state-decides}
+use Rattle.scan_theorems.proofs.EveryState.{ofTags, ofEsm, tag-state-decides, esm-state-decides}
 
 -- it ends the scan with 6 or 7, and writes events
 abbrev pub loud : Move → Bool

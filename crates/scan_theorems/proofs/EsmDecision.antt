@@ -5,6 +5,7 @@ use mathlib.Core.Bool.{true}
 use mathlib.Core.List.{List}
 use lib.ListN.{length}
 use lib.Dec.{eqb}
+use Rattle.base.proofs.Tables.{_&_, Each}
 use Rattle.base.specs.If.{if_then_else_}
 use Rattle.base.specs.Table.{find}
 use Rattle.base.specs.Page.{byteAt, afterLineFeed}
@@ -13,7 +14,7 @@ use Rattle.mdx_esm.specs.Word.{isWord}
 use Rattle.tokenizer.specs.Decision.{esmFault, esmAllowed, esmStates, decision}
 use Rattle.tokenizer.specs.Ranges.{esm}
 use Rattle.tokenizer.specs.declared.Tokenizer.{Tokenizer}
-use Rattle.scan_theorems.proofs.EveryState.{_&_, Each, ofEsm, of-every-esm-state}
+use Rattle.scan_theorems.proofs.EveryState.{ofEsm, of-every-esm-state}
 use Rattle.scan_theorems.proofs.Left.{esmLeft}
 use Rattle.scan_theorems.proofs.Ahead.{Ahead}
 use Rattle.scan_theorems.proofs.EsmFalls.{EsmFalls}

@@ -6,13 +6,12 @@ use native.Mathlib.Decide.{ℕ-discrete, decLe}
 use mathlib.Core.Path.{_≡_, refl, ap, _∙_}
 use mathlib.Core.Logic.{by-cases}
 use mathlib.Core.Bool.{Bool, true, false, _&&_, _||_}
-use mathlib.Core.List.{List, [], _∷_}
-use lib.Dec.{eqb}
-use borrow.Author.Tests.{eqb-true}
+use mathlib.Core.List.{List}
 use Rattle.base.specs.If.{among}
 use Rattle.base.proofs.Choice.{if-is, both}
 use Rattle.base.specs.Range.{within}
 use Rattle.base.proofs.Ranges.{within-is, is-within, above}
+use Rattle.base.proofs.Tables.{keys, Each, found-or}
 use Rattle.base.specs.Table.{find}
 use Rattle.base.specs.State as state
 use Rattle.base.specs.Decide.{retry}
@@ -22,33 +21,9 @@ use Rattle.tokenizer.specs.Decision.{notAscii, takesAscii, refusesNotAscii, exp
 use Rattle.tokenizer.specs.declared.Tokenizer.{Tokenizer}
 use Rattle.scan_theorems.proofs.Tests.{clash}
 
--- one row's proof, and those of the rows below it
-infixr 5 _&_
-abbrev pub _&_ : {A B : Type 0} → A → B → A × B
-a & b = (a, b)
-
 -- ---- one table
 
 module _ {A : Type 0} where
-  abbrev keys : List (ℕ × A) → List ℕ
-  keys [] = []
-  keys (e ∷ es) = e .0 ∷ keys es
-
-  -- the property of each row whose key is n
-  abbrev pub Each : (A → Type 0) → ℕ → List (ℕ × A) → Type 0
-  Each P n [] = Unit {0}
-  Each P n (e ∷ es) = (n ≡ e .0 → P (e .1)) × Each P n es
-
-  -- it holds of what is found, if it holds of what is given where no row has the number
-  pub found-or : (P : A → Type 0) (n : ℕ) (es : List (ℕ × A)) (d : A) → Each P n es → (among (keys es) n ≡ false → P d) → P (find n es d)
-  unfolding find among
-  found-or P n [] d h p = p refl
-  found-or P n (e ∷ es) d h p =
-      if-is A P (eqb n (e .0)) (e .1) (find n es d) (λ t. h .0 (eqb-true n (e .0) t)) (λ t. found-or P n es d (h .1) (λ a. p (rw t a)))
-
-  pub found : (P : A → Type 0) (n : ℕ) (es : List (ℕ × A)) (d : A) → Each P n es → P d → P (find n es d)
-  found P n es d h p = found-or P n es d h (λ f. p)
-
   -- where the number is a row's, nothing is asked of the rest
   pub found-key : (P : A → Type 0) (n : ℕ) (es : List (ℕ × A)) (d : A) → among (keys es) n ≡ true → Each P n es → P (find n es d)
   found-key P n es d k h = found-or P n es d h (λ f. clash (among (keys es) n) k f)

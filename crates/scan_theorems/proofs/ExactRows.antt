@@ -9,6 +9,7 @@ use mathlib.Core.List.{List}
 use lib.Dec.{ltb, eqb}
 use lib.ListN.{length}
 use borrow.Author.Tests.{ltb-true, lt-ltb, le-ltb, ne-eqb}
+use Rattle.base.proofs.Tables.{_&_, found}
 use Rattle.base.specs.Byte.{endOfPage}
 use Rattle.base.specs.If.{if_then_else_, among}
 use Rattle.base.proofs.Choice.{case, both, and-no, and-no′, or-left, or-right}
@@ -31,7 +32,7 @@ use Rattle.scan.specs.Call.{scanInRange}
 use Rattle.scan_theorems.specs.Rows.{tagState, takesAnyByte, notAsciiMet, endMet, wayOn, tooManyEvents, RowsOf}
 use Rattle.scan_theorems.specs.Statement.{ExactRows}
 use Rattle.scan_theorems.proofs.Tests.{clash}
-use Rattle.scan_theorems.proofs.EveryState.{_&_, found, all-hold}
+use Rattle.scan_theorems.proofs.EveryState.{all-hold}
 use Rattle.scan_theorems.proofs.Endings.{Ending, ending, tag-state-ends, esm-state-ends}
 use Rattle.scan_theorems.proofs.Parts.{parts, low, high}
 

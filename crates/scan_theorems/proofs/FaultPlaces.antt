@@ -10,6 +10,7 @@ use mathlib.Core.List.{List, _∷_, _++_}
 use lib.Dec.{leb, ltb, eqb}
 use lib.ListN.{getD}
 use borrow.Author.Tests.{le-leb, ltb-true}
+use Rattle.base.proofs.Tables.{_&_, Each}
 use Rattle.base.specs.If.{if_then_else_}
 use Rattle.base.proofs.Choice.{if-is, case, both, and-yes}
 use Rattle.base.specs.Byte.{tab}
@@ -27,7 +28,7 @@ use Rattle.tokenizer.specs.Decision.{expressionFault, esmFault, expressionState
 use Rattle.tokenizer.specs.Ranges.{inRange}
 use Rattle.tokenizer.specs.Ranges as ranges
 use Rattle.tokenizer.specs.declared.Tokenizer.{Tokenizer}
-use Rattle.scan_theorems.proofs.EveryState.{_&_, Each, of-every-tag-state, of-every-esm-state}
+use Rattle.scan_theorems.proofs.EveryState.{of-every-tag-state, of-every-esm-state}
 use Rattle.scan_theorems.proofs.Parts.{parts, low, high}
 
 -- ---- the places of a body

@@ -8,6 +8,7 @@ use mathlib.Core.List.{List, [], _∷_, _++_}
 use lib.Dec.{leb, ltb, eqb}
 use lib.ListN.{length}
 use borrow.Author.Tests.{eqb-true, lt-ltb, ltb-false, leb-true}
+use Rattle.base.proofs.Tables.{_&_, found}
 use Rattle.base.specs.Byte.{tab, lineFeed}
 use Rattle.base.specs.If.{if_then_else_, among}
 use Rattle.base.proofs.Choice.{if-yes, if-is, case, both, not-yes}
@@ -50,7 +51,6 @@ use Rattle.scan_theorems.specs.Lines.{OnLines, OverPage, LinesKept, Even
 use Rattle.scan_theorems.specs.Statement.{Heard}
 use Rattle.scan_theorems.proofs.Tests.{clash}
 use Rattle.scan_theorems.proofs.There.{byte-there}
-use Rattle.scan_theorems.proofs.EveryState.{_&_, found}
 use Rattle.scan_theorems.proofs.FaultPlaces.{faultIn, Faults, faults, fault-within}
 use Rattle.scan_theorems.proofs.Parts.{parts}
 use Rattle.scan_theorems.proofs.Fresh.{length-short}

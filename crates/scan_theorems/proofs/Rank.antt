@@ -6,6 +6,7 @@ use mathlib.Core.Bool.{Bool, true}
 use mathlib.Core.List.{List, [], _∷_}
 use native.Mathlib.Omega.{arith}
 use lib.Dec.{eqb}
+use Rattle.base.proofs.Tables.{_&_, found}
 use Rattle.base.specs.If.{if_then_else_}
 use Rattle.base.proofs.Choice.{if-is}
 use Rattle.base.specs.Table.{find}
@@ -16,7 +17,6 @@ use Rattle.mdx_jsx.specs.Jsx.{whitespaceOrEnd}
 use Rattle.mdx_jsx_attribute.specs.Attribute.{quotedEnds}
 use Rattle.tokenizer.specs.Ranges.{isReturn}
 use Rattle.tokenizer.specs.declared.Regs.{Regs}
-use Rattle.scan_theorems.proofs.EveryState.{_&_, found}
 use Rattle.scan_theorems.proofs.Found.{found-small}
 
 -- the states that white space or an expression returns to. White space ranks one above the state that it returns to, and what looks for

@@ -7,6 +7,7 @@ use mathlib.Core.Bool.{Bool, true, false, not, _||_}
 use mathlib.Core.List.{List}
 use lib.Dec.{leb, eqb}
 use borrow.Author.Tests.{ne-eqb, eq-eqb, eqb-true, leb-true}
+use Rattle.base.proofs.Tables.{_&_, Each}
 use Rattle.base.specs.Byte.{greaterThan}
 use Rattle.base.specs.If.{if_then_else_}
 use Rattle.base.proofs.Choice.{if-is, or-cases, or-no, or-yes}
@@ -29,7 +30,7 @@ use Rattle.tokenizer.specs.Ranges.{isReturn}
 use Rattle.tokenizer.specs.declared.Regs.{Regs}
 use Rattle.tokenizer.specs.declared.Tokenizer.{Tokenizer}
 use Rattle.scan_theorems.proofs.Tests.{clash}
-use Rattle.scan_theorems.proofs.EveryState.{_&_, Each, ofTags, ofEsm, of-every-tag-state, of-every-esm-state}
+use Rattle.scan_theorems.proofs.EveryState.{ofTags, ofEsm, of-every-tag-state, of-every-esm-state}
 use Rattle.scan_theorems.proofs.Sinks.{stays}
 use Rattle.scan_theorems.proofs.TagFalls.{stay}
 

@@ -6,6 +6,7 @@ use mathlib.Core.Bool.{Bool, true, false, not, _||_}
 use mathlib.Core.List.{List, [], _∷_}
 use lib.Dec.{leb, eqb}
 use borrow.Author.Tests.{leb-false, eq-eqb}
+use Rattle.base.proofs.Tables.{_&_, found-or}
 use Rattle.base.specs.If.{if_then_else_, among}
 use Rattle.base.proofs.Choice.{if-is, case, or-cases}
 use Rattle.base.specs.Range.{within}
@@ -24,7 +25,7 @@ use Rattle.scan.specs.Call.{givenScan, freshIn, freshScan}
 use Rattle.scan.specs.Alone.{runAlone}
 use Rattle.scan_theorems.specs.Statement.{answersOfScans, whereOf, ByTheTable}
 use Rattle.scan_theorems.proofs.Tests.{clash}
-use Rattle.scan_theorems.proofs.EveryState.{_&_, found-or, all-hold}
+use Rattle.scan_theorems.proofs.EveryState.{all-hold}
 use Rattle.scan_theorems.proofs.Parts.{parts, low, high}
 use Rattle.scan_theorems.proofs.Sites.{sitedEnd, Placed, placed-tag, placed-esm, placed-full}
 use Rattle.scan_theorems.proofs.Scans.{Within, within-step, within-given, within-fresh, alone-keeps, told-keeps}

@@ -7,6 +7,7 @@ use mathlib.Core.Bool.{Bool, true, false, not, _||_}
 use mathlib.Core.List.{List}
 use lib.Dec.{ltb, eqb}
 use borrow.Author.Tests.{eqb-true}
+use Rattle.base.proofs.Tables.{_&_, Each}
 use Rattle.base.specs.Byte.{lineFeed, endOfPage}
 use Rattle.base.specs.If.{if_then_else_}
 use Rattle.base.proofs.Choice.{if-is, and-no, and-no′, or-cases, not-yes}
@@ -26,7 +27,7 @@ use Rattle.tokenizer.specs.Ranges.{isReturn}
 use Rattle.tokenizer.specs.declared.Regs.{Regs}
 use Rattle.tokenizer.specs.declared.Tokenizer.{Tokenizer}
 use Rattle.scan_theorems.proofs.Tests.{clash}
-use Rattle.scan_theorems.proofs.EveryState.{_&_, Each, all-hold, ofTags, ofEsm, of-every-tag-state, of-every-esm-state}
+use Rattle.scan_theorems.proofs.EveryState.{all-hold, ofTags, ofEsm, of-every-tag-state, of-every-esm-state}
 
 -- the states that only a scan with a verdict source comes to; an ESM block's are those above its start
 abbrev pub needsVerdict : ℕ → Bool

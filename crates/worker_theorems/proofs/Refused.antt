@@ -6,6 +6,7 @@ use mathlib.Core.Bool.{Bool, true, false, not, _||_}
 use mathlib.Core.List.{List, [], _∷_}
 use lib.Dec.{leb, eqb}
 use borrow.Author.Tests.{leb-false}
+use Rattle.base.proofs.Tables.{_&_, found-or}
 use Rattle.base.specs.If.{among}
 use Rattle.base.proofs.Choice.{if-is, both, not-yes, or-left, or-right}
 use Rattle.base.specs.Range.{within}
@@ -15,7 +16,7 @@ use Rattle.scan.specs.declared.Scan.{Scan}
 use Rattle.scan.specs.Answer.{Said, refused, endAnswers, pageAnswers, verdictAnswers, verdictRefusal, refusal, answerOf}
 use Rattle.scan.specs.Call.{scanInRange}
 use Rattle.scan_theorems.proofs.Tests.{clash}
-use Rattle.scan_theorems.proofs.EveryState.{_&_, found-or, all-hold}
+use Rattle.scan_theorems.proofs.EveryState.{all-hold}
 use Rattle.scan_theorems.proofs.Parts.{parts}
 use Rattle.mdx_collect.specs.Collect.{Collected, collectOf}
 use Rattle.worker.specs.declared.Worker.{Worker}
