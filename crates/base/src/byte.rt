@@ -17,13 +17,9 @@ pub const APOSTROPHE: u16 = 39;
 
 pub const PLUS_SIGN: u16 = 43;
 
-pub const HYPHEN: u16 = 45;
-
 pub const DOT: u16 = 46;
 
 pub const SLASH: u16 = 47;
-
-pub const DIGIT_0: u16 = 48;
 
 pub const DIGIT_9: u16 = 57;
 

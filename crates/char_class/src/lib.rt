@@ -2,13 +2,13 @@
 //
 // Each class is decided here and nowhere else, behind one function with one promise: a quicker test, or names in other
 // scripts, changes the inside of a function or one definition, and no caller.
+mod lookup;
+
+use crate::lookup::looked_up;
 use base::byte::CAPITAL_A;
 use base::byte::CAPITAL_Z;
 use base::byte::CARRIAGE_RETURN;
-use base::byte::DIGIT_0;
-use base::byte::DIGIT_9;
 use base::byte::DOLLAR_SIGN;
-use base::byte::HYPHEN;
 use base::byte::SMALL_A;
 use base::byte::SMALL_Z;
 use base::byte::SPACE;
@@ -47,12 +47,12 @@ pub fn id_start(b: u16) -> bool
     }
 }
 
-// What a name goes on with.
+// A bit for each byte that a name goes on with: `$`, `-` and the digits in the first word, the letters and `_` in the second.
+const ID_CONT: [u64; 4] = [0x03ff_2010_0000_0000, 0x07ff_fffe_87ff_fffe, 0, 0];
+
+// What a name goes on with. Most bytes of a name meet this test, so it is a lookup.
 pub fn id_cont(b: u16) -> bool
     ensures { λ r. ⌜ r ≡ isIdCont b ⌝ }
 {
-    match b {
-        DIGIT_0..=DIGIT_9 | HYPHEN => true,
-        _ => id_start(b),
-    }
+    looked_up(ID_CONT, b)
 }

@@ -1,16 +1,16 @@
 -- A property that holds of every row of the tables of states holds of what a tokenizer in range decides: one walk, with the property as
 -- its argument. The rows are all there, so nothing is asked of the decision that no state makes.
-use Prim.Native.Nat.{ℕ, zero, suc, _+_, _≤_, _<_}
+use Prim.Native.Nat.{ℕ, _≤_}
 use native.Mathlib.Omega.{arith}
-use native.Mathlib.Decide.{ℕ-discrete, decLe}
-use mathlib.Core.Path.{_≡_, refl, ap, _∙_}
+use native.Mathlib.Decide.{decLe}
+use mathlib.Core.Path.{_≡_, refl}
 use mathlib.Core.Logic.{by-cases}
-use mathlib.Core.Bool.{Bool, true, false, _&&_, _||_}
+use mathlib.Core.Bool.{Bool, true, false, _||_}
 use mathlib.Core.List.{List}
 use Rattle.base.specs.If.{among}
 use Rattle.base.proofs.Choice.{if-is, both}
 use Rattle.base.specs.Range.{within}
-use Rattle.base.proofs.Ranges.{within-is, is-within, above}
+use Rattle.base.proofs.Ranges.{within-is, is-within, above, all-hold}
 use Rattle.base.proofs.Tables.{keys, Each, found-or}
 use Rattle.base.specs.Table.{find}
 use Rattle.base.specs.State as state
@@ -27,18 +27,6 @@ module _ {A : Type 0} where
   -- where the number is a row's, nothing is asked of the rest
   pub found-key : (P : A → Type 0) (n : ℕ) (es : List (ℕ × A)) (d : A) → among (keys es) n ≡ true → Each P n es → P (find n es d)
   found-key P n es d k h = found-or P n es d h (λ f. clash (among (keys es) n) k f)
-
--- ---- a test that holds of every number of a range, computed
-
-abbrev pub all : (ℕ → Bool) → ℕ → ℕ → Bool
-all f low zero = true
-all f low (suc n) = f low && all f (low + 1) n
-
-pub all-hold : (f : ℕ → Bool) (n low x : ℕ) → all f low n ≡ true → low ≤ x → x < low + n → f x ≡ true
-all-hold f zero low x a h g = absurd (omega arith)
-all-hold f (suc n) low x a h g =
-    let b = both (f low) (all f (low + 1) n) a in
-    by-cases (ℕ-discrete x low) (λ (e : x ≡ low). ap f e ∙ b .0) (λ ne. all-hold f n (low + 1) x (b .1) (omega (arith, ne)) (omega arith))
 
 -- ---- the states of an expression or a tag, and those of an ESM block
 

@@ -14,7 +14,7 @@ use Rattle.base.specs.Byte.{endOfPage}
 use Rattle.base.specs.If.{if_then_else_, among}
 use Rattle.base.proofs.Choice.{case, both, and-no, and-no′, or-left, or-right}
 use Rattle.base.specs.Range.{within}
-use Rattle.base.proofs.Ranges.{within-is, is-within}
+use Rattle.base.proofs.Ranges.{within-is, is-within, all-hold}
 use Rattle.base.specs.Table.{find}
 use Rattle.base.specs.Page.{byteAt}
 use Rattle.base.specs.State as state
@@ -32,7 +32,6 @@ use Rattle.scan.specs.Call.{scanInRange}
 use Rattle.scan_theorems.specs.Rows.{tagState, takesAnyByte, notAsciiMet, endMet, wayOn, tooManyEvents, RowsOf}
 use Rattle.scan_theorems.specs.Statement.{ExactRows}
 use Rattle.scan_theorems.proofs.Tests.{clash}
-use Rattle.scan_theorems.proofs.EveryState.{all-hold}
 use Rattle.scan_theorems.proofs.Endings.{Ending, ending, tag-state-ends, esm-state-ends}
 use Rattle.scan_theorems.proofs.Parts.{parts, low, high}
 

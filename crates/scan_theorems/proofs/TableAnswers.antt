@@ -10,7 +10,7 @@ use Rattle.base.proofs.Tables.{_&_, found-or}
 use Rattle.base.specs.If.{if_then_else_, among}
 use Rattle.base.proofs.Choice.{if-is, case, or-cases}
 use Rattle.base.specs.Range.{within}
-use Rattle.base.proofs.Ranges.{within-is}
+use Rattle.base.proofs.Ranges.{within-is, all-hold}
 use Rattle.base.specs.State as state
 use Rattle.base.specs.State.{rests}
 use Rattle.base.specs.declared.Move.{Move}
@@ -25,7 +25,6 @@ use Rattle.scan.specs.Call.{givenScan, freshIn, freshScan}
 use Rattle.scan.specs.Alone.{runAlone}
 use Rattle.scan_theorems.specs.Statement.{answersOfScans, whereOf, ByTheTable}
 use Rattle.scan_theorems.proofs.Tests.{clash}
-use Rattle.scan_theorems.proofs.EveryState.{all-hold}
 use Rattle.scan_theorems.proofs.Parts.{parts, low, high}
 use Rattle.scan_theorems.proofs.Sites.{sitedEnd, Placed, placed-tag, placed-esm, placed-full}
 use Rattle.scan_theorems.proofs.Scans.{Within, within-step, within-given, within-fresh, alone-keeps, told-keeps}

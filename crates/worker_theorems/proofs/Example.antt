@@ -23,7 +23,7 @@ use Rattle.tokenizer.specs.Ranges.{expression, tag, constructListed, kindListed
 use Rattle.scan.specs.Answer.{said, answerOf}
 use Rattle.scan.specs.Scan.{choice, stepScan, stepEvents, runScan, runEvents}
 use Rattle.scan.specs.Call.{scanInRange, runnable, runOf, givable, givenScan, giveOf, freshIn, beginOf}
-use Rattle.scan_theorems.proofs.EveryState.{all, all-hold}
+use Rattle.base.proofs.Ranges.{all, all-hold}
 use Rattle.worker.specs.Place.{stateOf, placeInRange, workerInRange, holds}
 use Rattle.worker.specs.Ring.{places, seek}
 use Rattle.worker.specs.Worker.{startOf, admitOf, verdictOf, collectCall, pageIn, liesIn, servedAt, turnAt, turnOf}

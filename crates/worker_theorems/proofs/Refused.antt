@@ -10,13 +10,12 @@ use Rattle.base.proofs.Tables.{_&_, found-or}
 use Rattle.base.specs.If.{among}
 use Rattle.base.proofs.Choice.{if-is, both, not-yes, or-left, or-right}
 use Rattle.base.specs.Range.{within}
-use Rattle.base.proofs.Ranges.{within-is}
+use Rattle.base.proofs.Ranges.{within-is, all-hold}
 use Rattle.tokenizer.specs.Ranges.{esm, isAnswer, runsIn, listed, inRange}
 use Rattle.scan.specs.declared.Scan.{Scan}
 use Rattle.scan.specs.Answer.{Said, refused, endAnswers, pageAnswers, verdictAnswers, verdictRefusal, refusal, answerOf}
 use Rattle.scan.specs.Call.{scanInRange}
 use Rattle.scan_theorems.proofs.Tests.{clash}
-use Rattle.scan_theorems.proofs.EveryState.{all-hold}
 use Rattle.scan_theorems.proofs.Parts.{parts}
 use Rattle.mdx_collect.specs.Collect.{Collected, collectOf}
 use Rattle.worker.specs.declared.Worker.{Worker}
