@@ -5,7 +5,7 @@ use mathlib.Core.Bool.{true, false}
 use native.Mathlib.Omega.{arith}
 use lib.Dec.{eqb}
 use Rattle.base.specs.If.{if_then_else_}
-use Rattle.base.proofs.Choice.{case, or-no}
+use Rattle.base.proofs.Choice.{case, or-no, or-right}
 use Rattle.base.specs.Range.{within}
 use Rattle.base.specs.Table.{find}
 use Rattle.base.specs.Byte.{lineFeed, slash, colon, equalsSign}
@@ -15,7 +15,6 @@ use Rattle.mdx_jsx_attribute.specs.Attribute.{attributeBefore, attributeExpress
 use Rattle.tokenizer.specs.Moved.{changed}
 use Rattle.tokenizer.specs.Ranges.{isReturn}
 use Rattle.tokenizer.specs.declared.Regs.{Regs}
-use Rattle.scan_theorems.proofs.Tests.{or-right}
 use Rattle.scan_theorems.proofs.There.{byte-there, start-there, quote-there}
 use Rattle.scan_theorems.proofs.Rank.{rank, returns, quotedRank}
 use Rattle.scan_theorems.proofs.Sinks.{Sinks, ends, eats, falls, pick, spaced}

@@ -5,7 +5,7 @@ use mathlib.Core.Bool.{Bool, true, false}
 use native.Mathlib.Omega.{arith}
 use lib.Dec.{ltb, eqb}
 use Rattle.base.specs.If.{if_then_else_}
-use Rattle.base.proofs.Choice.{if-is, case, or-no, both}
+use Rattle.base.proofs.Choice.{if-is, case, or-no, or-left, both}
 use Rattle.base.specs.Range.{within}
 use Rattle.base.specs.Table.{find}
 use Rattle.base.specs.Byte.{space, leftBrace, rightBrace, endOfPage}
@@ -18,7 +18,6 @@ use Rattle.mdx_expression.specs.Expression.{stops, start, before, inside, eolAf
 use Rattle.tokenizer.specs.Moved.{changed}
 use Rattle.tokenizer.specs.Ranges.{isReturn}
 use Rattle.tokenizer.specs.declared.Regs.{Regs}
-use Rattle.scan_theorems.proofs.Tests.{or-left}
 use Rattle.scan_theorems.proofs.There.{byte-there}
 use Rattle.scan_theorems.proofs.Rank.{rank, prefixRank, insideRank, verdictRank, returns-small, rank-return}
 use Rattle.scan_theorems.proofs.Sinks.{Sinks, ends, eats, falls, pick}

@@ -6,13 +6,13 @@ use mathlib.Core.List.{[], _∷_}
 use lib.Dec.{eqb}
 use borrow.Author.Tests.{eqb-true}
 use Rattle.base.specs.If.{among}
-use Rattle.base.proofs.Choice.{case}
+use Rattle.base.proofs.Choice.{case, or-left, or-right}
 use Rattle.base.specs.Range.{within}
 use Rattle.base.specs.Byte.{lineFeed, smallE, smallI, endOfPage}
 use Rattle.char_class.specs.Class.{isSpaceOrTab, isIdStart, isIdCont}
 use Rattle.mdx_jsx_attribute.specs.Attribute.{opensValue}
 use Rattle.mdx_esm.specs.Esm.{inWord, lineEnds}
-use Rattle.scan_theorems.proofs.Tests.{clash, or-left, or-right}
+use Rattle.scan_theorems.proofs.Tests.{clash}
 
 pub there : (f : ℕ → Bool) (b : ℕ) → f endOfPage ≡ false → f b ≡ true → eqb b endOfPage ≡ false
 there f b z h = case _ (eqb b endOfPage) (λ e. clash (f endOfPage) (rw (eqb-true b endOfPage e) at h) z) (λ e. e)
