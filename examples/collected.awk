@@ -2,7 +2,7 @@
 # the same page, numbers and verdicts, and as many events of room as a share has. A single scan must answer the same.
 # Use: awk -f examples/collected.awk crates/calls/stdout | ./cases
 $1 == "lend" && $NF == "Lent" { lent = $2 == "-" ? "" : $2 }
-$1 == "start" && $NF == "Started" { room = int($3 / 64) }
+$1 == "start" && $(NF - 1) == "Started" { room = int($3 / 64) }
 $1 == "admit" && $(NF - 1) == "Place" {
     place = $NF
     case_of[place] = $2 " " $3 " " $4 " " $5 " " $6 " " ($8 == 0 ? "-" : substr(lent, 2 * $7 + 1, 2 * $8))

@@ -42,3 +42,7 @@ inPage = 38
 
 abbrev pub inScratch : ℕ
 inScratch = 39
+
+-- words enough for a page
+abbrev pub enough : ℕ
+enough = 40

@@ -35,6 +35,8 @@ pub(crate) enum Call {
         scratch: usize,
     },
     Collect(usize),
+    // How many words are enough for a page of so many bytes.
+    Words(usize),
     // The line is no call.
     Bad,
 }
@@ -74,6 +76,9 @@ fn read_other(line: &[u8], end: usize) -> Call {
     }
     if text::is_word(line, 0, end, b"collect") {
         return read_collect(line, end + 1);
+    }
+    if text::is_word(line, 0, end, b"words") {
+        return read_words(line, end + 1);
     }
     Call::Bad
 }
@@ -197,6 +202,13 @@ fn body_of(place: usize, scratch: Parsed) -> Call {
 fn read_collect(line: &[u8], from: usize) -> Call {
     match last_number(line, from) {
         Parsed::Number(number) => Call::Collect(number as usize),
+        Parsed::Bad => Call::Bad,
+    }
+}
+
+fn read_words(line: &[u8], from: usize) -> Call {
+    match last_number(line, from) {
+        Parsed::Number(number) => Call::Words(number as usize),
         Parsed::Bad => Call::Bad,
     }
 }

@@ -3,6 +3,7 @@ use crate::body::put_body;
 use crate::reading::Call;
 use crate::reading::read_call;
 use crate::replying::is_started;
+use crate::replying::put_enough;
 use crate::replying::put_reply;
 use base::Verdict;
 use text::Hex;
@@ -80,6 +81,7 @@ pub(crate) fn serve(
     match call {
         Call::Lend(from) => lend(line, from, lent, out, script),
         Call::Start { q, words } => start(line, q, words, events, out, script),
+        Call::Words(length) => words_for(line, length, out, script),
         Call::Admit {
             letters,
             start,
@@ -134,6 +136,15 @@ fn lend(line: &[u8], from: usize, lent: &mut [u8], out: &mut [u8], script: Scrip
         Hex::BadHex => bad_line(out, script, b""),
         Hex::NoRoom => bad_line(out, script, b""),
     }
+}
+
+// Nothing is asked of a worker, so there need be none.
+fn words_for(line: &[u8], length: usize, out: &mut [u8], script: Script) -> Script {
+    let at = put_call(line, out, script.used);
+    let at = put_enough(room::words_enough(length), out, at);
+    let mut next = script;
+    next.used = report::put(out, at, b"\n");
+    next
 }
 
 // A worker that is refused leaves the one that was there.

@@ -30,7 +30,7 @@ const PAGE_ROOM: usize = 60_000;
 // A body may be half as long again as its page, since a tab that is split is spaces in it.
 const SCRATCH_ROOM: usize = PAGE_ROOM + PAGE_ROOM / 2;
 
-const WORD_ROOM: usize = 6 * (PAGE_ROOM + 1) * events::WIDTH;
+const WORD_ROOM: usize = room::AT_EACH_BYTE * (PAGE_ROOM + 1) * events::WIDTH;
 
 const PIECE_ROOM: usize = 196_608;
 

@@ -1,5 +1,6 @@
 // A case as it stands on a line, its page in hex and its verdicts in a comma list.
 use crate::comparing::eat;
+use room::Enough;
 use text::Hex;
 use text::Letters;
 use text::Parsed;
@@ -53,7 +54,7 @@ fn new_case(letters: Letters) -> Case {
         length: 0,
         verdicts: 0,
         verdicts_end: 0,
-        room: 6,
+        room: 0,
         allowance: ALLOWANCE,
     }
 }
@@ -76,13 +77,23 @@ fn read_page(line: &[u8], from: usize, case: Case, space: &mut [u8]) -> ReadCase
             if LONGEST < count {
                 return ReadCase::Bad;
             }
-            let mut c = case;
-            c.length = count;
-            c.room = 6 * (count + 1);
-            read_verdicts(line, end + 1, c)
+            with_page(line, end + 1, case, count)
         }
         Hex::BadHex => ReadCase::Bad,
         Hex::NoRoom => ReadCase::Bad,
+    }
+}
+
+// Where the line does not say how many events fit, as many do as are enough for the page.
+fn with_page(line: &[u8], from: usize, case: Case, length: usize) -> ReadCase {
+    match room::words_enough(length) {
+        Enough::Words(words) => {
+            let mut c = case;
+            c.length = length;
+            c.room = events::room_in(words);
+            read_verdicts(line, from, c)
+        }
+        Enough::TooLong => ReadCase::Bad,
     }
 }
 

@@ -21,7 +21,7 @@ const LONGEST: usize = 60_000;
 const PAGE_ROOM: usize = 60_001;
 
 // Words for six events for each byte and the page's end.
-const WORD_ROOM: usize = 6 * PAGE_ROOM * events::WIDTH;
+const WORD_ROOM: usize = room::AT_EACH_BYTE * PAGE_ROOM * events::WIDTH;
 
 const TEXT_ROOM: usize = 65_536;
 

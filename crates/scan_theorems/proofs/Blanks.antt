@@ -54,7 +54,3 @@ blanks-none page at h =
     (λ e. let l = ltb-true at (length page) e in
     rw (drop-cons page at 0) (heading-none (getD page at 0) (drop (suc at) page) (rw (byte-in page at l) at h)))
     (λ e. omega (arith, blanks-fit page at, ltb-false at (length page) e))
-
-pub blanks-step : (page : List ℕ) (at : ℕ) → at < length page → blanks page at ≤ blanks page (at + 1) + 1
-blanks-step page at l =
-    case _ (isSpaceOrTab (byteAt page at)) (λ e. omega (arith, blanks-more page at e l)) (λ e. omega (arith, blanks-none page at e))

@@ -4,7 +4,7 @@ use Prim.Native.Nat.{ℕ, _+_, _-_, _≤_}
 use native.Mathlib.Omega.{arith}
 use mathlib.Core.Path.{_≡_, refl, sym, ap, _∙_}
 use mathlib.Core.Bool.{true, false}
-use mathlib.Core.List.{List}
+use mathlib.Core.List.{List, []}
 use lib.ListN.{length, drop, length-drop}
 use lib.Seq.{length-take-le}
 use lib.Dec.{leb, ltb, eqb}
@@ -22,11 +22,16 @@ use Rattle.events.specs.Words.{roomIn}
 use Rattle.tokenizer.specs.declared.Job.{Job}
 use Rattle.tokenizer.specs.Moved.{oneMore, moved}
 use Rattle.tokenizer.specs.Ranges.{esm, constructListed, kindListed, jobInRange, runsIn, isAnswer, listed, isReturn, numbersInRange, placesInRange, regsInRange, verdictInRange, inRange}
-use Rattle.page.specs.Page.{pageOf, Admitted}
+use Rattle.base.specs.Number as number
+use Rattle.page.specs.declared.line.Spot.{Spot}
+use Rattle.page.specs.declared.Checked.{Checked}
+use Rattle.page.specs.declared.Checked.the-variants as checked
+use Rattle.page.specs.Page.{pageOf, pageCheck, Admitted}
 use Rattle.scan.specs.declared.Scan.{Scan}
+use Rattle.scan.specs.Answer.{Said, said, placed, refused}
 use Rattle.scan.specs.Lines.{lineInRange, linesInRange}
 use Rattle.scan.specs.Scan.{stepBound, choice, lacks, carriedOut, stepScan, runScan}
-use Rattle.scan.specs.Call.{scanInRange, runnable, runOf, givable, givenScan, giveOf, jobOf, allFlags, freshScan, numbersListed, Begun, started, notStarted, beginOf, Left, noScan, ranFrom, singleOf}
+use Rattle.scan.specs.Call.{scanInRange, runnable, runOf, givable, givenScan, giveOf, jobOf, allFlags, freshScan, numbersListed, Begun, started, notStarted, begunIf, beginOf, Left, noScan, ranFrom, singleOf}
 use Rattle.scan.proofs.Begun.{begins}
 use Rattle.scan.proofs.Runs.{run-keeps}
 use Rattle.scan.proofs.Kept.{step-job}
@@ -152,6 +157,25 @@ pub job-in-range : (bytes : List ℕ) (at n start construct kind flags words : �
 unfolding jobInRange
 job-in-range bytes at n start construct kind flags words l a =
     and-yes _ _ (le-leb n pageLimit (a .short)) (and-yes _ _ (le-leb start n (a .starts)) (both (leb flags allFlags) _ l .1))
+
+-- a scan that is not begun is refused by 12, 2, 3 or 4: what holds of these holds of it
+pub not-begun : (P : Said → Type 0) (bytes : List ℕ) (at n start construct kind flags words : ℕ)
+    → (numbersListed construct kind flags ≡ false → P refused) → P (said number.tooLong []) → P (said number.badStart []) → ((p : Spot) → P (said number.badText (placed p [])))
+    → (a : Said) → beginOf bytes at n start construct kind flags words ≡ notStarted a → P a
+unfolding beginOf if_then_else_
+not-begun P bytes at n start construct kind flags words bad long far text a e =
+    case _ (numbersListed construct kind flags)
+    (λ l. by (pageCheck bytes at n start) (rw l at e))
+    (λ l. told refused (rw l at e) (bad l))
+  where
+    told : (x : Said) → notStarted x ≡ notStarted a → P x → P a
+    told x f g = let h : x ≡ a = cc in rw h at g
+
+    by : (x : Checked) → begunIf x (jobOf construct kind flags n start words) ≡ notStarted a → P a
+    by (checked.Good line) f = let z : _≡_ {A = ℕ} 0 1 = cc in absurd (omega (arith, z))
+    by checked.TooLong f = told _ f long
+    by checked.BadStart f = told _ f far
+    by (checked.BadText p) f = told _ f (text p)
 
 pub new-gives-in-range : (bytes : List ℕ) (at n start construct kind flags words : ℕ) (s : Scan) → beginOf bytes at n start construct kind flags words ≡ started s → scanInRange s ≡ true
 new-gives-in-range bytes at n start construct kind flags words s e =

@@ -15,16 +15,14 @@ use Rattle.base.specs.Number as number
 use Rattle.base.specs.State as state
 use Rattle.base.specs.State.{rests}
 use Rattle.base.specs.declared.Move.{Move}
-use Rattle.page.specs.declared.Checked.{Checked}
-use Rattle.page.specs.declared.Checked.the-variants as checked
-use Rattle.page.specs.Page.{pageOf, pageCheck}
+use Rattle.page.specs.Page.{pageOf}
 use Rattle.tokenizer.specs.declared.Job.{Job}
 use Rattle.tokenizer.specs.Moved.{moved}
 use Rattle.tokenizer.specs.Ranges.{tag, esm, jobInRange}
 use Rattle.scan.specs.declared.Scan.{Scan}
 use Rattle.scan.specs.Answer.{Said, endAnswers, pageAnswers, verdictAnswers, verdictRefusal, refusal, answerOf}
 use Rattle.scan.specs.Scan.{choice, lacks, stepScan, runScan}
-use Rattle.scan.specs.Call.{runnable, runOf, jobOf, firstState, freshIn, freshScan, numbersListed, Begun, started, notStarted, begunIf, beginOf, Left, ranFrom, singleOf}
+use Rattle.scan.specs.Call.{runnable, runOf, jobOf, firstState, freshIn, freshScan, numbersListed, Begun, started, notStarted, beginOf, Left, ranFrom, singleOf}
 use Rattle.scan.specs.Alone.{runAlone}
 use Rattle.scan.proofs.Begun.{begins}
 use Rattle.scan.proofs.Runs.{run-keeps}
@@ -32,14 +30,14 @@ use Rattle.scan_theorems.specs.Counting.{countingAnswers, CountingEnds, 
 use Rattle.scan_theorems.specs.Statement.{answersOfScans}
 use Rattle.scan_theorems.proofs.Tests.{clash}
 use Rattle.scan_theorems.proofs.Parts.{parts, low, high}
-use Rattle.scan_theorems.proofs.Fresh.{left-fresh}
+use Rattle.scan_theorems.proofs.Fresh.{steps-fresh}
 use Rattle.scan_theorems.proofs.Scans.{Within, within-step, within-fresh, within-range, run-ends}
-use Rattle.scan_theorems.proofs.Calls.{page-long, job-in-range}
+use Rattle.scan_theorems.proofs.Calls.{page-long, job-in-range, not-begun}
 use Rattle.scan_theorems.proofs.TableAnswers.{a-scan-answers-by-the-table}
 use Rattle.scan_theorems.proofs.Unasked.{needsVerdict, Counts, counts-tag, counts-esm, counts-full}
 
 -- what holds of the three states that scans begin in holds of the one that a construct's scan begins in
-first-is : (P : ℕ → Type 0) (construct : ℕ) → P state.mdxEsmStart → P state.mdxJsxStart → P state.mdxExpressionStart → P (firstState construct)
+pub first-is : (P : ℕ → Type 0) (construct : ℕ) → P state.mdxEsmStart → P state.mdxJsxStart → P state.mdxExpressionStart → P (firstState construct)
 first-is P construct e t x = if-is ℕ P (eqb construct esm) _ _ (λ c. e) (λ c. if-is ℕ P (eqb construct tag) _ _ (λ d. t) (λ d. x))
 
 -- ---- what a scan without a verdict source keeps
@@ -109,7 +107,7 @@ a-scan-without-verdicts-ends page j k h l a b =
     let f = freshScan page j in
     let r = runScan page k f in
     let s = run-keeps page (Silent page) (silent-step page) k f (silent-fresh page j h l a) in
-    let e = run-ends page k f (within-fresh page j h l) (omega (arith, left-fresh page j l)) in
+    let e = run-ends page k f (within-fresh page j h l) (omega (arith, steps-fresh page j l)) in
     rest-of (answerOf r .number) (a-scan-answers-by-the-table page j k [] h l tt .0) (rest-answers r e (s .counts .free))
 
 -- ---- a single scan in one call
@@ -149,14 +147,8 @@ module _
 
     -- rows 2, 3 and 4
     page-refused : (a : Said) → begun ≡ notStarted a → Ends a
-    unfolding beginOf among if_then_else_
-    page-refused a e = by (pageCheck bytes at n start) (rw listed at e)
-      where
-        by : (x : Checked) → begunIf x job ≡ notStarted a → Ends a
-        by (checked.Good line) x = let z : _≡_ {A = ℕ} 0 1 = cc in absurd (omega (arith, z))
-        by checked.TooLong x = let y : a .number ≡ number.tooLong = cc in rw y
-        by checked.BadStart x = let y : a .number ≡ number.badStart = cc in rw y
-        by (checked.BadText p) x = let y : a .number ≡ number.badText = cc in rw y
+    unfolding among
+    page-refused = not-begun Ends bytes at n start construct kind flags (length words) (λ f. clash (numbersListed construct kind flags) listed f) refl refl (λ p. refl)
 
     -- the scan is a new one, so it is run to its end
     page-scanned : (s : Scan) → begun ≡ started s → Ends (runOf page allowance s words .answer)

@@ -1,4 +1,4 @@
--- Each step of a sound tokenizer that does not rest leaves less to do, and leaves it sound.
+-- Each step of a sound tokenizer that does not rest is paid for, whatever the prices, and leaves it sound.
 use Prim.Native.Nat.{ℕ, _+_, _≤_}
 use mathlib.Core.Path.{_≡_}
 use mathlib.Core.Bool.{true, false}
@@ -18,7 +18,8 @@ use Rattle.tokenizer.specs.Ranges.{esm}
 use Rattle.tokenizer.specs.declared.Tokenizer.{Tokenizer}
 use Rattle.scan_theorems.proofs.Parts.{parts, low, high}
 use Rattle.scan_theorems.proofs.DecisionSinks.{decision-sinks}
-use Rattle.scan_theorems.proofs.Left.{left, left-esm}
+use Rattle.scan_theorems.proofs.Price.{Prices, price, steps}
+use Rattle.scan_theorems.proofs.Due.{due, due-esm}
 use Rattle.scan_theorems.proofs.Tame.{Tame, tame, answers, stands}
 use Rattle.scan_theorems.proofs.DecisionTame.{low-tame}
 use Rattle.scan_theorems.proofs.TagFalls.{judged}
@@ -38,37 +39,41 @@ tame-elsewhere : (page : List ℕ) (t : Tokenizer) (m : Move) → Tame false m �
 unfolding moved
 tame-elsewhere page t m (tame h g) = elsewhere (low-elsewhere (m .next) (omega (arith, stands-low (m .next) h)))
 
-module _ (page : List ℕ) (t : Tokenizer) (s : Sound page t) (r : rests (t .state) ≡ false) where
-  abbrev after : Tokenizer
-  after = moved t (decision page t (byteAt page (t .at)))
+module _ (p : Prices) (page : List ℕ) (t : Tokenizer) (s : Sound page t) (r : rests (t .state) ≡ false) where
+  abbrev choice : Move
+  choice = decision page t (byteAt page (t .at))
 
-  -- a step leaves less to do and keeps what a look-ahead needs
+  abbrev after : Tokenizer
+  after = moved t choice
+
+  -- a step is paid for and keeps what a look-ahead needs
   abbrev Good : Type 0
-  Good = (left page after + 1 ≤ left page t) × Ahead page (after .state) (after .at) (after .regs .saved)
+  Good = (due p page after + price p (choice .marks) ≤ due p page t) × Ahead page (after .state) (after .at) (after .regs .saved)
 
   runs : leb (t .state) badCall ≡ false
   runs = lt-leb (t .state) badCall (omega (arith, ltb-false (t .state) 32 r))
 
   tag-good : eqb (t .job .construct) esm ≡ false → Good
   tag-good c =
-      let p = parts t (s .range) in
+      let q = parts t (s .range) in
       let b = byteAt page (t .at) in
-      let l = low (t .job .construct) (t .state) c (p .state) r in
-      (judged page t (s .size) c runs (decision page t b) (decision-sinks page t b (p .regs .back) l), tame-elsewhere page t (decision page t b) (low-tame page t b (p .regs .back) (p .heard) l))
+      let l = low (t .job .construct) (t .state) c (q .state) r in
+      (judged p page t (s .size) c runs choice (decision-sinks p page t b (q .regs .back) l), tame-elsewhere page t choice (low-tame page t b (q .regs .back) (q .heard) l))
 
   esm-good : eqb (t .job .construct) esm ≡ true → Good
-  unfolding left moved
+  unfolding due moved
   esm-good c =
-      let p = parts t (s .range) in
-      let h = high (t .job .construct) (t .state) c (p .state) r in
-      let q = decision-falls page t c (s .size) (omega (arith, p .at, s .size)) (s .ahead) h in
-      (omega (arith, q .less, left-esm page (t .job .construct) (t .state) (t .at) (t .regs) c runs), q .kept)
+      let q = parts t (s .range) in
+      let h = high (t .job .construct) (t .state) c (q .state) r in
+      let d = decision-falls p page t c (s .size) (omega (arith, q .at, s .size)) (s .ahead) h in
+      (omega (arith, d .less, due-esm p page (t .job .construct) (t .state) (t .at) (t .regs) c runs), d .kept)
 
   good : Good
   good = case Good (eqb (t .job .construct) esm) esm-good tag-good
 
-pub falls : (page : List ℕ) (t : Tokenizer) → Sound page t → rests (t .state) ≡ false → left page (moved t (decision page t (byteAt page (t .at)))) + 1 ≤ left page t
-falls page t s r = good page t s r .0
+pub falls : (p : Prices) (page : List ℕ) (t : Tokenizer) → Sound page t → rests (t .state) ≡ false
+    → due p page (moved t (decision page t (byteAt page (t .at)))) + price p (decision page t (byteAt page (t .at)) .marks) ≤ due p page t
+falls p page t s r = good p page t s r .0
 
 pub sound-moved : (page : List ℕ) (t : Tokenizer) → Sound page t → rests (t .state) ≡ false → Sound page (moved t (decision page t (byteAt page (t .at))))
 unfolding moved
@@ -76,5 +81,5 @@ sound-moved page t s r =
     record {
       range = moved-in-range page t (byteAt page (t .at)) (s .range) r;
       size = s .size;
-      ahead = good page t s r .1;
+      ahead = good steps page t s r .1;
     }

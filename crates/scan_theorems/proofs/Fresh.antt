@@ -1,7 +1,8 @@
--- A scan that begins has at most eight steps to do for each byte from its start to the page's end, and eight more; and it is sound.
+-- No more is due of a scan that begins than the most that a byte costs, for each byte from its start to the page's end and for that end;
+-- and it is sound.
 use Prim.Native.Nat.{ℕ, _+_, _-_, _*_, _≤_}
-use mathlib.Core.Path.{_≡_, refl}
-use mathlib.Core.Bool.{true}
+use mathlib.Core.Path.{_≡_, refl, ap}
+use mathlib.Core.Bool.{true, false}
 use mathlib.Core.List.{List}
 use native.Mathlib.Omega.{arith}
 use lib.ListN.{length}
@@ -18,9 +19,11 @@ use Rattle.tokenizer.specs.Registers.{noRegs}
 use Rattle.tokenizer.specs.Ranges.{tag, esm, jobInRange, runsIn, isAnswer, listed, isReturn, verdictInRange}
 use Rattle.tokenizer.specs.declared.Job.{Job}
 use Rattle.tokenizer.specs.declared.Tokenizer.{Tokenizer}
-use Rattle.scan_theorems.proofs.Left.{esmLeft, leftOf, left}
+use Rattle.scan_theorems.proofs.Price.{Prices, steps, events}
+use Rattle.scan_theorems.proofs.Rank.{awaits}
+use Rattle.scan_theorems.proofs.Due.{ahead, esmDue, dueOf, due}
 use Rattle.scan_theorems.proofs.Parts.{whole}
-use Rattle.scan_theorems.proofs.TagFalls.{left-most}
+use Rattle.scan_theorems.proofs.TagFalls.{due-most}
 use Rattle.scan_theorems.proofs.Ahead.{elsewhere, looksElsewhere}
 use Rattle.scan_theorems.proofs.Sound.{Sound}
 
@@ -31,19 +34,33 @@ begins construct = if eqb construct esm then mdxEsmStart else if eqb construct t
 abbrev pub fresh : Job → Tokenizer
 fresh j = record { job = j; state = begins (j .construct); at = j .start; regs = noRegs; heard = Fine }
 
--- as much is left at any place of an expression or a tag, and where an ESM block begins
-pub left-begins : (page : List ℕ) (t : Tokenizer) → (eqb (t .job .construct) esm ≡ true → t .state ≡ mdxEsmStart) → left page t ≤ 8 * (length page - t .at + 1)
-unfolding left leftOf esmLeft find if_then_else_
-left-begins page t h =
-    case _ (eqb (t .job .construct) esm) (λ c. rw (h c, c) (omega arith))
-    (λ c. omega (arith, left-most page (t .job .construct) (t .state) (t .at) (t .regs) c))
-
-esm-begins : (construct : ℕ) → eqb construct esm ≡ true → begins construct ≡ mdxEsmStart
+begins-on : (construct : ℕ) → awaits (begins construct) ≡ false
 unfolding if_then_else_
-esm-begins construct c = rw c
+begins-on construct = case _ (eqb construct esm) (λ c. rw c) (λ c. case _ (eqb construct tag) (λ d. rw (c, d)) (λ d. rw (c, d)))
 
-pub left-fresh : (page : List ℕ) (j : Job) → length page ≡ j .length → left page (fresh j) ≤ 8 * (j .length - j .start + 1)
-left-fresh page j s = omega (arith, left-begins page (fresh j) (esm-begins (j .construct)))
+-- as much as n bytes and the page's end can cost
+all-ahead : (p : Prices) (page : List ℕ) (at : ℕ) → ahead p page at + p .most ≡ p .most * (length page - at + 1)
+unfolding ahead
+all-ahead p page at = omega arith
+
+due-begins : (p : Prices) (page : List ℕ) (j : Job) → due p page (fresh j) ≤ ahead p page (j .start) + p .most
+unfolding due dueOf esmDue find if_then_else_
+due-begins p page j =
+    case _ (eqb (j .construct) esm) (λ c. rw c (omega (arith, p)))
+    (λ c. due-most p page (j .construct) (begins (j .construct)) (j .start) noRegs c (begins-on (j .construct)))
+
+due-fresh : (p : Prices) (page : List ℕ) (j : Job) → length page ≡ j .length → due p page (fresh j) ≤ p .most * (j .length - j .start + 1)
+due-fresh p page j s =
+    let e = ap (λ (n : ℕ). p .most * (n - j .start + 1)) s in
+    omega (arith, e, due-begins p page j, all-ahead p page (j .start))
+
+pub steps-fresh : (page : List ℕ) (j : Job) → length page ≡ j .length → due steps page (fresh j) ≤ 8 * (j .length - j .start + 1)
+unfolding steps
+steps-fresh page j s = due-fresh steps page j s
+
+pub events-fresh : (page : List ℕ) (j : Job) → length page ≡ j .length → due events page (fresh j) ≤ 6 * (j .length - j .start + 1)
+unfolding events
+events-fresh page j s = due-fresh events page j s
 
 begins-listed : (construct : ℕ) → listed construct (begins construct) ≡ true
 unfolding listed isAnswer runsIn within if_then_else_

@@ -1,4 +1,4 @@
--- A verdict is given to a tokenizer that asks: it has as much left to do as before, and stays sound.
+-- A verdict is given to a tokenizer that asks: as much is due as before, and it stays sound.
 use Prim.Native.Nat.{ℕ}
 use mathlib.Core.Path.{_≡_, refl}
 use mathlib.Core.Bool.{true}
@@ -12,8 +12,9 @@ use Rattle.base.specs.State.{asking, mdxExpressionVerdict, mdxEsmVerdict}
 use Rattle.base.specs.declared.Verdict.{Verdict}
 use Rattle.tokenizer.specs.Ranges.{esm, runsIn, isAnswer, listed, isReturn, verdictInRange}
 use Rattle.tokenizer.specs.declared.Tokenizer.{Tokenizer}
+use Rattle.scan_theorems.proofs.Price.{Prices}
 use Rattle.scan_theorems.proofs.Rank.{rank}
-use Rattle.scan_theorems.proofs.Left.{esmLeft, leftOf, left}
+use Rattle.scan_theorems.proofs.Due.{esmDue, dueOf, due}
 use Rattle.scan_theorems.proofs.Parts.{parts, whole}
 use Rattle.scan_theorems.proofs.Ahead.{elsewhere, looksElsewhere}
 use Rattle.scan_theorems.proofs.Sound.{Sound}
@@ -25,14 +26,14 @@ applies construct = if eqb construct esm then mdxEsmVerdict else mdxExpressionVe
 abbrev pub given : Tokenizer → Verdict → Tokenizer
 given t v = record { job = t .job; state = applies (t .job .construct); at = t .at; regs = t .regs; heard = v }
 
--- what is left where a verdict is applied is what is left where it is asked for
-applied : (page : List ℕ) (t : Tokenizer) → leftOf page (t .job .construct) (applies (t .job .construct)) (t .at) (t .regs) ≡ leftOf page (t .job .construct) asking (t .at) (t .regs)
-unfolding leftOf esmLeft rank isReturn within find if_then_else_
-applied page t = case _ (eqb (t .job .construct) esm) (λ c. rw c) (λ c. rw c)
+-- what is due where a verdict is applied is what is due where it is asked for
+applied : (p : Prices) (page : List ℕ) (t : Tokenizer) → dueOf p page (t .job .construct) (applies (t .job .construct)) (t .at) (t .regs) ≡ dueOf p page (t .job .construct) asking (t .at) (t .regs)
+unfolding dueOf esmDue rank isReturn within find if_then_else_
+applied p page t = case _ (eqb (t .job .construct) esm) (λ c. rw c) (λ c. rw c)
 
-pub left-given : (page : List ℕ) (t : Tokenizer) (v : Verdict) → t .state ≡ asking → left page (given t v) ≡ left page t
-unfolding left
-left-given page t v e = rw e (applied page t)
+pub due-given : (p : Prices) (page : List ℕ) (t : Tokenizer) (v : Verdict) → t .state ≡ asking → due p page (given t v) ≡ due p page t
+unfolding due
+due-given p page t v e = rw e (applied p page t)
 
 applies-listed : (construct : ℕ) → listed construct (applies construct) ≡ true
 unfolding listed isAnswer runsIn within if_then_else_

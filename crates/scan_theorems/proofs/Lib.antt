@@ -1,7 +1,7 @@
 pub mod Tests
 pub mod EveryState
-pub mod Found
 pub mod There
+pub mod Price
 pub mod Rank
 pub mod Sinks
 pub mod ExpressionSinks
@@ -11,7 +11,7 @@ pub mod AttributeSinks
 pub mod Parts
 pub mod DecisionSinks
 pub mod Blanks
-pub mod Left
+pub mod Due
 pub mod TagFalls
 pub mod Tame
 pub mod DecisionTame
@@ -36,3 +36,4 @@ pub mod Sites
 pub mod TableAnswers
 pub mod Unasked
 pub mod Counting
+pub mod Room

@@ -16,7 +16,7 @@ use Rattle.base.specs.Page.{pageLimit, byteAt}
 use Rattle.base.specs.Tab.{columnsOf}
 use Rattle.base.specs.declared.InTab.{InTab}
 use Rattle.base.specs.declared.InTab.the-variants.{Outside}
-use Rattle.base.specs.State.{rests}
+use Rattle.base.specs.State.{asking, rests}
 use Rattle.base.specs.Decide.{listOf}
 use Rattle.base.specs.declared.Mark.{Mark}
 use Rattle.base.specs.declared.Mark.the-variants.{Enter, Exit, Leave}
@@ -41,21 +41,20 @@ use Rattle.scan.specs.declared.Scan.{Scan}
 use Rattle.scan.specs.Answer.{Said, endAnswers, pageAnswers, verdictAnswers, verdictRefusal, refusal, answerOf}
 use Rattle.scan.specs.Lines.{highest, highestColumn, linePast, columnIn, pointIn, tabNext, withinEnd, linesAfter}
 use Rattle.scan.specs.Scan.{choice, carriedOut, lineNext, stepScan, stepEvents, runScan, runEvents}
-use Rattle.scan.specs.Call.{givable, givenScan, giveOf, runnable, runOf, jobOf, freshIn, freshScan}
-use Rattle.scan.specs.Statement.{Call, run, give, scanAfter}
+use Rattle.scan.specs.Call.{givenScan, jobOf, freshIn, freshScan}
 use Rattle.scan.specs.Alone.{toldScan, runAlone, eventsAlone}
 use Rattle.scan.proofs.Begun.{begins}
 use Rattle.scan.proofs.Kept.{step-job}
 use Rattle.scan.proofs.Runs.{run-keeps}
-use Rattle.scan_theorems.specs.Lines.{OnLines, OverPage, LinesKept, EventPlaced, EachPlaced, AnswerPlaced, EventsPlaced, AnswersPlaced, ScansPlaced}
+use Rattle.scan_theorems.specs.Lines.{OnLines, LinesKept, EventPlaced, EachPlaced, AnswerPlaced, EventsPlaced, AnswersPlaced, ScansPlaced}
 use Rattle.scan_theorems.specs.Statement.{Heard}
 use Rattle.scan_theorems.proofs.Tests.{clash}
 use Rattle.scan_theorems.proofs.There.{byte-there}
 use Rattle.scan_theorems.proofs.FaultPlaces.{faultIn, Faults, faults, fault-within}
 use Rattle.scan_theorems.proofs.Parts.{parts}
 use Rattle.scan_theorems.proofs.Fresh.{length-short}
-use Rattle.scan_theorems.proofs.Calls.{tokenizer-in-range, step-in-range, give-gives-in-range, given-in-range, page-long, job-in-range}
-use Rattle.scan_theorems.proofs.Scans.{within-range, within-fresh, alone-keeps, told-keeps}
+use Rattle.scan_theorems.proofs.Calls.{tokenizer-in-range, step-in-range, given-in-range, page-long, job-in-range}
+use Rattle.scan_theorems.proofs.Scans.{within-range, within-fresh, alone-keeps, calls-keep, told-keeps}
 
 -- ---- the next line
 
@@ -242,26 +241,18 @@ step-on page s r h =
 
 -- ---- calls
 
-run-on : (page : List ℕ) (k : ℕ) (s : Scan) → OnLines page s → OnLines page (runScan page k s)
-run-on page = run-keeps page (OnLines page) (step-on page)
-
-give-on : (page : List ℕ) (s : Scan) (v : Verdict) → OnLines page s → OnLines page (giveOf s v .scan)
-unfolding giveOf givenScan if_then_else_
-give-on page s v h =
-    case _ (givable s v)
-    (λ e.
-    let g = give-gives-in-range s v (h .range) in
-    rw e (record { range = rw e at g; size = h .size; inside = h .inside; line = h .line; tabbed = h .tabbed; kept = h .kept; fault = h .fault }))
-    (λ e. rw e h)
-
-ran-on : (page : List ℕ) (k : ℕ) (s : Scan) (lent : List ℕ) → OnLines page s → OnLines page (runOf page k s lent .scan)
-unfolding runOf if_then_else_
-ran-on page k s lent h = case _ (runnable s (length page) (length lent) k) (λ e. rw e (run-on page k s h)) (λ e. rw e h)
-
-calls-on : (page : List ℕ) (calls : List Call) (s : Scan) (lent : List ℕ) → OverPage page calls → OnLines page s → OnLines page (scanAfter calls s lent)
-calls-on page [] s lent o h = h
-calls-on page (run over k ∷ calls) s lent o h = rw (o .0) (calls-on page calls (runOf page k s lent .scan) (runOf page k s lent .words) (o .1) (ran-on page k s lent h))
-calls-on page (give v ∷ calls) s lent o h = calls-on page calls (giveOf s v .scan) lent o (give-on page s v h)
+given-on : (page : List ℕ) (s : Scan) (v : Verdict) → s .tokenizer .state ≡ asking → verdictInRange v ≡ true → OnLines page s → OnLines page (givenScan s v)
+unfolding givenScan
+given-on page s v a g h =
+    record {
+      range = given-in-range s v a g (h .range);
+      size = h .size;
+      inside = h .inside;
+      line = h .line;
+      tabbed = h .tabbed;
+      kept = h .kept;
+      fault = h .fault;
+    }
 
 fresh-on : (page : List ℕ) (j : Job) → jobInRange j ≡ true → length page ≡ j .length → OnLines page (freshScan page j)
 unfolding freshIn
@@ -281,7 +272,7 @@ lines-are-the-pages bytes at n start construct kind flags words s e calls lent o
     let b = begins bytes at n start construct kind flags words s e in
     let page = pageOf bytes at n in
     let j = jobOf construct kind flags n start words in
-    calls-on page calls s lent o
+    calls-keep page (OnLines page) (step-on page) (given-on page) calls s lent o
     (rw (b .fresh) (fresh-on page j (job-in-range bytes at n start construct kind flags words (b .listed) (b .admitted)) (page-long bytes at n start (b .admitted))))
 
 -- ---- events
@@ -352,10 +343,7 @@ answers-carry-their-lines page s h =
 -- ---- a scan from its start
 
 told-on : (page : List ℕ) (s : Scan) (v : Verdict) → verdictInRange v ≡ true → OnLines page s → OnLines page (toldScan s v)
-unfolding givenScan
-told-on page s v g h =
-    told-keeps (OnLines page) s v
-    (λ e. record { range = given-in-range s v e g (h .range); size = h .size; inside = h .inside; line = h .line; tabbed = h .tabbed; kept = h .kept; fault = h .fault }) h
+told-on page s v g h = told-keeps (OnLines page) s v (λ e. given-on page s v e g h) h
 
 alone-on : (page : List ℕ) (k : ℕ) (vs : List Verdict) (s : Scan) → Heard vs → OnLines page s → OnLines page (runAlone page k vs s)
 alone-on page k = alone-keeps page k (OnLines page) (step-on page) (told-on page)
@@ -365,7 +353,7 @@ unfolding eventsAlone
 alone-placed page k [] s g h = events-carry-their-lines page k s h
 alone-placed page k (v ∷ vs) s g h =
     both-placed page (runEvents page k s) _ (events-carry-their-lines page k s h)
-    (alone-placed page k vs (toldScan (runScan page k s) v) (g .1) (told-on page (runScan page k s) v (g .0) (run-on page k s h)))
+    (alone-placed page k vs (toldScan (runScan page k s) v) (g .1) (told-on page (runScan page k s) v (g .0) (run-keeps page (OnLines page) (step-on page) k s h)))
 
 pub a-scan-carries-its-lines : ScansPlaced
 a-scan-carries-its-lines page j k vs h l g =

@@ -1,6 +1,6 @@
 -- The states of a tag's name sink.
-use Prim.Native.Nat.{ℕ, _+_, _<_}
-use mathlib.Core.Path.{refl}
+use Prim.Native.Nat.{ℕ, _+_}
+use mathlib.Core.Path.{_≡_, refl}
 use native.Mathlib.Omega.{arith}
 use Rattle.base.specs.If.{if_then_else_}
 use Rattle.base.specs.Range.{within}
@@ -11,65 +11,67 @@ use Rattle.mdx_jsx_name.specs.Name.{nameBefore, closingTagNameBefore, primaryNa
 use Rattle.tokenizer.specs.Ranges.{isReturn}
 use Rattle.tokenizer.specs.declared.Regs.{Regs}
 use Rattle.scan_theorems.proofs.There.{byte-there, start-there}
-use Rattle.scan_theorems.proofs.Rank.{rank, returns}
+use Rattle.scan_theorems.proofs.Price.{Prices}
+use Rattle.scan_theorems.proofs.Rank.{rank, returns, runEnds}
 use Rattle.scan_theorems.proofs.Sinks.{Sinks, ends, eats, falls, pick}
-use Rattle.scan_theorems.proofs.TagSinks.{name-sinks, tag-end-low}
+use Rattle.scan_theorems.proofs.TagSinks.{name-sinks, tag-end-rank}
 
--- the three states after a name are above the state before an attribute
-primary-low : returns mdxJsxPrimaryNameAfter + 1 < 5
-unfolding returns find if_then_else_
-primary-low = omega arith
+module _ (p : Prices) where
+  -- the three states after a name
+  primary-returns : returns p mdxJsxPrimaryNameAfter ≡ runEnds p
+  unfolding returns find if_then_else_
+  primary-returns = refl
 
-member-low : returns mdxJsxMemberNameAfter + 1 < 5
-unfolding returns find if_then_else_
-member-low = omega arith
+  member-returns : returns p mdxJsxMemberNameAfter ≡ runEnds p
+  unfolding returns find if_then_else_
+  member-returns = refl
 
-local-low : returns mdxJsxLocalNameAfter + 1 < 5
-unfolding returns find if_then_else_
-local-low = omega arith
+  local-returns : returns p mdxJsxLocalNameAfter ≡ runEnds p
+  unfolding returns find if_then_else_
+  local-returns = refl
 
-module _ (at : ℕ) (r : Regs) (b : ℕ) where
-  attribute-low : rank mdxJsxAttributeBefore b r < 3
+module _ (p : Prices) (at : ℕ) (r : Regs) (b : ℕ) where
+  attribute-rank : rank p mdxJsxAttributeBefore b r ≡ p .none + p .three
   unfolding rank returns isReturn within find if_then_else_
-  attribute-low = omega arith
+  attribute-rank = refl
 
-  pub name-before-sinks : Sinks at r b 2 (nameBefore b)
+  pub name-before-sinks : Sinks p at r b (p .none + p .three) (nameBefore b)
   name-before-sinks =
-      pick (λ e. eats refl refl (byte-there b slash e refl))
-      (λ e. pick (λ f. falls refl (tag-end-low at r b 2 (omega arith)))
-      (λ f. pick (λ g. eats refl refl (start-there b g)) (λ g. pick (λ h. ends refl) (λ h. ends refl))))
+      pick (λ e. eats refl refl (byte-there b slash e refl) refl (omega (arith, p)))
+      (λ e. pick (λ f. falls refl refl (omega (arith, tag-end-rank p at r b)))
+      (λ f. pick (λ g. eats refl refl (start-there b g) refl (omega (arith, p))) (λ g. pick (λ h. ends refl (omega arith)) (λ h. ends refl (omega arith)))))
 
-  pub closing-before-sinks : Sinks at r b 2 (closingTagNameBefore b)
+  pub closing-before-sinks : Sinks p at r b (p .none + p .three) (closingTagNameBefore b)
   closing-before-sinks =
-      pick (λ e. falls refl (tag-end-low at r b 2 (omega arith)))
-      (λ e. pick (λ f. eats refl refl (start-there b f)) (λ f. pick (λ g. ends refl) (λ g. ends refl)))
+      pick (λ e. falls refl refl (omega (arith, tag-end-rank p at r b)))
+      (λ e. pick (λ f. eats refl refl (start-there b f) refl (omega (arith, p))) (λ f. pick (λ g. ends refl (omega arith)) (λ g. ends refl (omega arith))))
 
-  pub primary-sinks : Sinks at r b 5 (primaryName b)
-  primary-sinks = name-sinks _ _ _ mdxJsxPrimaryNameAfter _ _ (omega arith) primary-low
+  pub primary-sinks : Sinks p at r b (p .one + (p .none + runEnds p)) (primaryName b)
+  primary-sinks = name-sinks _ _ _ mdxJsxPrimaryNameAfter _ _ refl (omega (arith, primary-returns p)) (omega (arith, primary-returns p))
 
-  pub primary-after-sinks : Sinks at r b 3 (primaryNameAfter b)
+  pub primary-after-sinks : Sinks p at r b (runEnds p) (primaryNameAfter b)
   primary-after-sinks =
-      pick (λ e. eats refl refl (byte-there b dot e refl))
-      (λ e. pick (λ f. eats refl refl (byte-there b colon f refl))
-      (λ f. pick (λ g. falls refl attribute-low) (λ g. ends refl)))
+      pick (λ e. eats refl refl (byte-there b dot e refl) refl (omega (arith, p)))
+      (λ e. pick (λ f. eats refl refl (byte-there b colon f refl) refl (omega (arith, p)))
+      (λ f. pick (λ g. falls refl refl (omega (arith, attribute-rank))) (λ g. ends refl (omega arith))))
 
-  pub member-before-sinks : Sinks at r b 1 (memberNameBefore b)
-  member-before-sinks = pick (λ e. eats refl refl (start-there b e)) (λ e. ends refl)
+  pub member-before-sinks : Sinks p at r b (p .one) (memberNameBefore b)
+  member-before-sinks = pick (λ e. eats refl refl (start-there b e) refl (omega arith)) (λ e. ends refl (omega (arith, p)))
 
-  pub member-sinks : Sinks at r b 5 (memberName b)
-  member-sinks = name-sinks _ _ _ mdxJsxMemberNameAfter _ _ (omega arith) member-low
+  pub member-sinks : Sinks p at r b (p .one + (p .none + runEnds p)) (memberName b)
+  member-sinks = name-sinks _ _ _ mdxJsxMemberNameAfter _ _ refl (omega (arith, member-returns p)) (omega (arith, member-returns p))
 
-  pub member-after-sinks : Sinks at r b 3 (memberNameAfter b)
+  pub member-after-sinks : Sinks p at r b (runEnds p) (memberNameAfter b)
   member-after-sinks =
-      pick (λ e. eats refl refl (byte-there b dot e refl))
-      (λ e. pick (λ f. falls refl attribute-low) (λ f. ends refl))
+      pick (λ e. eats refl refl (byte-there b dot e refl) refl (omega (arith, p)))
+      (λ e. pick (λ f. falls refl refl (omega (arith, attribute-rank))) (λ f. ends refl (omega arith)))
 
-  pub local-before-sinks : Sinks at r b 1 (localNameBefore b)
+  pub local-before-sinks : Sinks p at r b (p .one) (localNameBefore b)
   local-before-sinks =
-      pick (λ e. eats refl refl (start-there b e)) (λ e. pick (λ f. ends refl) (λ f. ends refl))
+      pick (λ e. eats refl refl (start-there b e) refl (omega arith)) (λ e. pick (λ f. ends refl (omega (arith, p))) (λ f. ends refl (omega (arith, p))))
 
-  pub local-sinks : Sinks at r b 5 (localName b)
-  local-sinks = name-sinks _ _ _ mdxJsxLocalNameAfter _ _ (omega arith) local-low
+  pub local-sinks : Sinks p at r b (p .one + (p .none + runEnds p)) (localName b)
+  local-sinks = name-sinks _ _ _ mdxJsxLocalNameAfter _ _ refl (omega (arith, local-returns p)) (omega (arith, local-returns p))
 
-  pub local-after-sinks : Sinks at r b 3 (localNameAfter b)
-  local-after-sinks = pick (λ e. falls refl attribute-low) (λ e. ends refl)
+  pub local-after-sinks : Sinks p at r b (runEnds p) (localNameAfter b)
+  local-after-sinks = pick (λ e. falls refl refl (omega (arith, attribute-rank))) (λ e. ends refl (omega arith))

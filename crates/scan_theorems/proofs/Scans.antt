@@ -1,5 +1,6 @@
--- Every step of a scan is counted, and a scan of n bytes makes at most 8(n+1) of them. And the two inductions that every promise on scans
--- uses: what each step keeps, a run keeps; what runs and verdicts keep, a whole scan keeps.
+-- Every step of a scan is counted, and a scan of n bytes makes at most 8(n+1) of them and writes at most 6(n+1) events: one argument, with
+-- two prices. And the two inductions that every promise on scans uses: what each step keeps, a run keeps; what runs and verdicts keep, a
+-- whole scan keeps.
 use Prim.Native.Nat.{ℕ, zero, suc, _+_, _-_, _≤_}
 use native.Mathlib.Omega.{arith}
 use mathlib.Core.Path.{_≡_, refl, sym, ap, _∙_}
@@ -9,43 +10,53 @@ use lib.ListN.{length}
 use lib.Dec.{eqb}
 use borrow.Author.Tests.{le-leb, ltb-false, lt-ltb, eqb-true}
 use Rattle.base.specs.If.{if_then_else_}
-use Rattle.base.proofs.Choice.{if-is, if-yes, case, and-yes}
+use Rattle.base.proofs.Choice.{if-is, if-yes, case, both, and-yes}
 use Rattle.base.specs.Range.{within}
 use Rattle.base.specs.State.{full, asking, rests}
 use Rattle.base.specs.Decide.{retry, countOf}
 use Rattle.base.specs.declared.Marks.the-variants.{Nothing}
 use Rattle.base.specs.declared.Move.{Move}
 use Rattle.base.specs.declared.Verdict.{Verdict}
-use Rattle.base.specs.Page.{pageLimit}
+use Rattle.base.specs.Page.{pageLimit, byteAt}
 use Rattle.page.proofs.Lines.{line-within, column-within}
 use Rattle.events.specs.Words.{roomIn}
 use Rattle.tokenizer.specs.declared.Job.{Job}
 use Rattle.tokenizer.specs.declared.Tokenizer.{Tokenizer}
+use Rattle.tokenizer.specs.Decision.{decision}
 use Rattle.tokenizer.specs.Moved.{moved}
 use Rattle.tokenizer.specs.Ranges.{jobInRange, isAnswer, verdictInRange}
 use Rattle.scan.specs.declared.Scan.{Scan}
 use Rattle.scan.specs.Scan.{stepBound, choice, lacks, carriedOut, stepScan, runScan}
-use Rattle.scan.specs.Call.{scanInRange, givenScan, freshIn, freshScan}
+use Rattle.scan.specs.Call.{scanInRange, runnable, runOf, givable, givenScan, giveOf, freshIn, freshScan}
+use Rattle.scan.specs.Statement.{Call, run, give, scanAfter}
 use Rattle.scan.specs.Alone.{toldScan, runAlone}
 use Rattle.scan.proofs.Runs.{run-keeps}
 use Rattle.scan.proofs.Kept.{step-job, run-job}
 use Rattle.scan.specs.Inner.{Small}
 use Rattle.scan.proofs.Steps.{step-small}
 use Rattle.scan.proofs.Ranged.{lines-told}
+use Rattle.room.specs.Room.{eventsEnough}
+use Rattle.scan_theorems.specs.Lines.{OverPage}
 use Rattle.scan_theorems.specs.Statement.{Heard, made, madeAlone, FewSteps}
-use Rattle.scan_theorems.proofs.Left.{left, left-ended}
+use Rattle.scan_theorems.proofs.Price.{Prices, price, price-least, steps, price-step, events, price-events}
+use Rattle.scan_theorems.proofs.Due.{due, due-ended, left}
 use Rattle.scan_theorems.proofs.Parts.{parts}
 use Rattle.scan_theorems.proofs.Sound.{Sound}
 use Rattle.scan_theorems.proofs.Falls.{falls, sound-moved}
 use Rattle.scan_theorems.proofs.Ended.{sound-ended}
-use Rattle.scan_theorems.proofs.Given.{left-given, sound-given}
-use Rattle.scan_theorems.proofs.Fresh.{left-fresh, start-within, length-short, sound-fresh}
+use Rattle.scan_theorems.proofs.Given.{due-given, sound-given}
+use Rattle.scan_theorems.proofs.Fresh.{steps-fresh, events-fresh, start-within, length-short, sound-fresh}
 
--- a scan over its page: in range, and with steps enough for what is left to do
+-- the most events that a scan writes
+abbrev pub eventBound : Job → ℕ
+eventBound j = eventsEnough (j .length - j .start)
+
+-- a scan over its page: in range, and with steps and events enough for what is left to do
 pub record Within (page : List ℕ) (s : Scan) : Type 0 where
   pub sound : Sound page (s .tokenizer)
   pub room : s .used ≤ roomIn (s .tokenizer .job .words)
   pub paid : s .steps + left page (s .tokenizer) ≤ stepBound (s .tokenizer .job)
+  pub written : s .used + due events page (s .tokenizer) ≤ eventBound (s .tokenizer .job)
   pub lines : Small (s .lines)
 
 -- it is in range, as the calls test it
@@ -66,39 +77,55 @@ module _ (page : List ℕ) (s : Scan) (w : Within page s) (r : rests (s .tokeniz
   abbrev t : Tokenizer
   t = s .tokenizer
 
-  -- what a step leaves of the tokenizer
-  abbrev Fine : Move → Type 0
-  Fine m = Sound page (moved t m) × (left page (moved t m) + 1 ≤ left page t) × (s .used + countOf (m .marks) ≤ roomIn (t .job .words))
+  -- what a step leaves of the tokenizer: it is paid for, whatever the prices
+  record Fine (m : Move) : Type 0 where
+    sound : Sound page (moved t m)
+    pays : (p : Prices) → due p page (moved t m) + price p (m .marks) ≤ due p page t
+    fits : s .used + countOf (m .marks) ≤ roomIn (t .job .words)
 
   decided : lacks s (choice page s) ≡ false → Fine (choice page s)
   unfolding choice
   decided e =
-      (sound-moved page t (w .sound) r, falls page t (w .sound) r, omega (arith, w .room, ltb-false (roomIn (t .job .words) - s .used) (countOf (choice page s .marks)) e))
+      record {
+        sound = sound-moved page t (w .sound) r;
+        pays = λ p. falls p page t (w .sound) r;
+        fits = omega (arith, w .room, ltb-false (roomIn (t .job .words) - s .used) (countOf (choice page s .marks)) e);
+      }
 
   -- no room: the scan ends where it is
   cut-off : Fine (retry full Nothing)
   unfolding moved isAnswer within if_then_else_
   cut-off =
-      let f = falls page t (w .sound) r in
-      (sound-ended page t full (w .sound) refl (omega arith), omega (arith, f, left-ended page (moved t (retry full Nothing)) (omega arith)), omega (arith, w .room))
+      record {
+        sound = sound-ended page t full (w .sound) refl (omega arith);
+        pays = λ p. omega (arith, falls p page t (w .sound) r, price-least p (decision page t (byteAt page (t .at)) .marks), due-ended p page (moved t (retry full Nothing)) (omega arith));
+        fits = omega (arith, w .room);
+      }
 
-  fine : Fine (carriedOut s (choice page s))
+  abbrev carried : Move
+  carried = carriedOut s (choice page s)
+
+  fine : Fine carried
   fine = if-is Move Fine (lacks s (choice page s)) (retry full Nothing) (choice page s) (λ e. cut-off) decided
+
+  -- a step is one less to make
+  less-left : left page (moved t carried) + 1 ≤ left page t
+  less-left = omega (arith, fine .pays steps, price-step (carried .marks))
 
   -- there is something left to do, so the step is counted
   pub step-counted : stepScan page s .steps ≡ s .steps + 1
   unfolding stepScan
   step-counted =
-      let f = fine .1 in
-      sym (if-yes _ _ _ _ _ (lt-ltb (s .steps) (stepBound (s .tokenizer .job)) (omega (arith, f, w .paid))) refl)
+      sym (if-yes _ _ _ _ _ (lt-ltb (s .steps) (stepBound (s .tokenizer .job)) (omega (arith, less-left, w .paid))) refl)
 
   pub within-step : Within page (stepScan page s)
   unfolding stepScan moved
   within-step =
       record {
-        sound = fine .0;
-        room = fine .2;
-        paid = omega (arith, fine .1, w .paid, step-counted);
+        sound = fine .sound;
+        room = fine .fits;
+        paid = omega (arith, less-left, w .paid, step-counted);
+        written = omega (arith, fine .pays events, price-events (carried .marks), w .written);
         lines = step-small page s (carriedOut s (choice page s)) (page-short page (s .tokenizer) (w .sound)) (w .lines);
       }
 
@@ -119,10 +146,10 @@ run-counted page (suc k) s w =
 pub run-ends : (page : List ℕ) (k : ℕ) (s : Scan) → Within page s → left page (s .tokenizer) ≤ k → rests (runScan page k s .tokenizer .state) ≡ true
 unfolding runScan stepScan if_then_else_
 run-ends page zero s w h =
-    case _ (rests (s .tokenizer .state)) (λ e. e) (λ e. absurd (omega (arith, fine page s w e .1)))
+    case _ (rests (s .tokenizer .state)) (λ e. e) (λ e. absurd (omega (arith, less-left page s w e)))
 run-ends page (suc k) s w h =
     case _ (rests (s .tokenizer .state)) (λ e. rw e e)
-    (λ e. rw e (run-ends page k (stepScan page s) (within-step page s w e) (omega (arith, fine page s w e .1))))
+    (λ e. rw e (run-ends page k (stepScan page s) (within-step page s w e) (omega (arith, less-left page s w e))))
 
 -- ---- verdicts
 
@@ -132,7 +159,8 @@ within-given page s v w e h =
     record {
       sound = sound-given page (s .tokenizer) v (w .sound) h;
       room = w .room;
-      paid = omega (arith, w .paid, left-given page (s .tokenizer) v e);
+      paid = omega (arith, w .paid, due-given steps page (s .tokenizer) v e);
+      written = omega (arith, w .written, due-given events page (s .tokenizer) v e);
       lines = w .lines;
     }
 
@@ -144,7 +172,8 @@ within-fresh page j h l =
     record {
       sound = sound-fresh page j h l;
       room = omega arith;
-      paid = omega (arith, left-fresh page j l);
+      paid = omega (arith, steps-fresh page j l);
+      written = omega (arith, events-fresh page j l);
       lines = (
         record {
           number = omega (arith, line-within page (j .start), start-within j h, length-short j h);
@@ -163,6 +192,29 @@ pub alone-keeps : (page : List ℕ) (k : ℕ) (P : Scan → Type 0) → ((s : Sc
 unfolding runAlone
 alone-keeps page k P f g [] s h p = run-keeps page P f k s p
 alone-keeps page k P f g (v ∷ vs) s h p = alone-keeps page k P f g vs (toldScan (runScan page k s) v) (h .1) (g (runScan page k s) v (h .0) (run-keeps page P f k s p))
+
+-- what every step keeps, and every verdict that is given, calls keep whose runs are lent this page
+module _
+    (page : List ℕ) (P : Scan → Type 0)
+    (f : (s : Scan) → rests (s .tokenizer .state) ≡ false → P s → P (stepScan page s))
+    (g : (s : Scan) (v : Verdict) → s .tokenizer .state ≡ asking → verdictInRange v ≡ true → P s → P (givenScan s v))
+  where
+    pub ran-keeps : (k : ℕ) (s : Scan) (lent : List ℕ) → P s → P (runOf page k s lent .scan)
+    unfolding runOf if_then_else_
+    ran-keeps k s lent h = case _ (runnable s (length page) (length lent) k) (λ e. rw e (run-keeps page P f k s h)) (λ e. rw e h)
+
+    give-keeps : (s : Scan) (v : Verdict) → P s → P (giveOf s v .scan)
+    unfolding giveOf givable if_then_else_
+    give-keeps s v h =
+        case _ (givable s v)
+        (λ e. let a = both (eqb (s .tokenizer .state) asking) _ e in
+        rw e (g s v (eqb-true (s .tokenizer .state) asking (a .0)) (both (verdictInRange v) _ (a .1) .0) h))
+        (λ e. rw e h)
+
+    pub calls-keep : (calls : List Call) (s : Scan) (lent : List ℕ) → OverPage page calls → P s → P (scanAfter calls s lent)
+    calls-keep [] s lent o h = h
+    calls-keep (run over k ∷ calls) s lent o h = rw (o .0) (calls-keep calls (runOf page k s lent .scan) (runOf page k s lent .words) (o .1) (ran-keeps k s lent h))
+    calls-keep (give v ∷ calls) s lent o h = calls-keep calls (giveOf s v .scan) lent o (give-keeps s v h)
 
 -- what a verdict that is given keeps, a verdict keeps that is told to a scan, asking or not
 pub told-keeps : (P : Scan → Type 0) (s : Scan) (v : Verdict) → (s .tokenizer .state ≡ asking → P (givenScan s v)) → P s → P (toldScan s v)

@@ -1,5 +1,5 @@
--- A decision of an expression or a tag that leaves less to do: it ends the scan, or eats a byte, or goes down in rank.
-use Prim.Native.Nat.{ℕ, _+_, _<_}
+-- A decision of an expression or a tag that pays for itself: it ends the scan, or eats a byte, or pays its price out of the rank.
+use Prim.Native.Nat.{ℕ, _+_, _≤_}
 use mathlib.Core.Path.{_≡_, refl}
 use mathlib.Core.Bool.{Bool, true, false}
 use native.Mathlib.Omega.{arith}
@@ -18,7 +18,8 @@ use Rattle.mdx_jsx.specs.Jsx.{whitespaceOrEnd, whitespaceHere}
 use Rattle.tokenizer.specs.Moved.{changed}
 use Rattle.tokenizer.specs.Ranges.{isReturn}
 use Rattle.tokenizer.specs.declared.Regs.{Regs}
-use Rattle.scan_theorems.proofs.Rank.{rank, returns}
+use Rattle.scan_theorems.proofs.Price.{Prices, price, price-least}
+use Rattle.scan_theorems.proofs.Rank.{awaits, rank, returns}
 
 -- no look-ahead ends, so that the place of the next step is where this one leaves off
 abbrev pub stays : Effect → Bool
@@ -38,20 +39,29 @@ stays (Last n) = true
 stays (Fault n place) = true
 stays (Refuse site note) = true
 
--- the decision m at the byte b, where the rank is k; a step that does not eat is judged with the registers that it leaves
-pub data Sinks (at : ℕ) (r : Regs) (b k : ℕ) (m : Move) : Type 0 where
-  ends : leb (m .next) badCall ≡ true → Sinks at r b k m
-  eats : stays (m .effect) ≡ true → m .eat ≡ true → eqb b endOfPage ≡ false → Sinks at r b k m
-  falls : stays (m .effect) ≡ true → rank (m .next) b (changed (m .effect) at at r) < k → Sinks at r b k m
+-- the decision m at the byte b, where the rank is k; a step that does not eat is judged with the registers that it leaves. What eats is
+-- stuck at the page's end, and goes on there
+pub data Sinks (p : Prices) (at : ℕ) (r : Regs) (b k : ℕ) (m : Move) : Type 0 where
+  ends : leb (m .next) badCall ≡ true → price p (m .marks) ≤ k → Sinks p at r b k m
+  eats : stays (m .effect) ≡ true → m .eat ≡ true → eqb b endOfPage ≡ false → awaits (m .next) ≡ false → price p (m .marks) ≤ k → Sinks p at r b k m
+  falls : stays (m .effect) ≡ true → m .eat ≡ false → price p (m .marks) + rank p (m .next) b (changed (m .effect) at at r) ≤ k → Sinks p at r b k m
+  stuck : stays (m .effect) ≡ true → awaits (m .next) ≡ false → price p (m .marks) + rank p (m .next) b (changed (m .effect) at at r) ≤ k → Sinks p at r b k m
+
+-- no rank is less than the price of a step without events
+pub pays : {p : Prices} {at : ℕ} {r : Regs} {b k : ℕ} {m : Move} → Sinks p at r b k m → p .none ≤ k
+pays {p} {m} (ends h g) = omega (arith, price-least p (m .marks))
+pays {p} {m} (eats s e n a g) = omega (arith, price-least p (m .marks))
+pays {p} {m} (falls s e g) = omega (arith, price-least p (m .marks))
+pays {p} {m} (stuck s a g) = omega (arith, price-least p (m .marks))
 
 -- what sinks by either choice sinks
-pub pick : {at : ℕ} {r : Regs} {b k : ℕ} {t : Bool} {x y : Move} → (t ≡ true → Sinks at r b k x) → (t ≡ false → Sinks at r b k y) → Sinks at r b k (if t then x else y)
-pick {at} {r} {b} {k} {t} {x} {y} = if-is Move (Sinks at r b k) t x y
+pub pick : {p : Prices} {at : ℕ} {r : Regs} {b k : ℕ} {t : Bool} {x y : Move} → (t ≡ true → Sinks p at r b k x) → (t ≡ false → Sinks p at r b k y) → Sinks p at r b k (if t then x else y)
+pick {p} {at} {r} {b} {k} {t} {x} {y} = if-is Move (Sinks p at r b k) t x y
 
--- the white space that may stand here is looked for
-pub spaced : {at : ℕ} {r : Regs} {b k : ℕ} {marks : Marks} (back : ℕ) → 2 < k → returns back + 1 < k → Sinks at r b k (whitespaceHere marks back)
+-- the white space that may stand here is looked for: what it returns to costs more than white space does
+pub spaced : {p : Prices} {at : ℕ} {r : Regs} {b k : ℕ} {marks : Marks} (back : ℕ) → p .none + p .three ≤ returns p back → price p marks + (p .none + returns p back) ≤ k → Sinks p at r b k (whitespaceHere marks back)
 unfolding rank isReturn within find if_then_else_
-spaced {b} {k} back h g =
-    falls refl
-    (if-is ℕ (λ (x : ℕ). x < k) (eqb b lineFeed) 1 _ (λ e. omega arith)
-    (λ e. if-is ℕ (λ (x : ℕ). x < k) (whitespaceOrEnd b) 2 _ (λ e. omega arith) (λ e. g)))
+spaced {p} {b} {k} {marks} back h g =
+    falls refl refl
+    (if-is ℕ (λ (x : ℕ). price p marks + x ≤ k) (eqb b lineFeed) (p .two) _ (λ e. omega (arith, p))
+    (λ e. if-is ℕ (λ (x : ℕ). price p marks + x ≤ k) (whitespaceOrEnd b) (p .one + p .none) _ (λ e. omega (arith, p)) (λ e. g)))

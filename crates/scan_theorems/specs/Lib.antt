@@ -1,4 +1,5 @@
 pub mod Counting
 pub mod Lines
+pub mod Room
 pub mod Rows
 pub mod Statement

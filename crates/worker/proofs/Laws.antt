@@ -16,6 +16,7 @@ use Rattle.scan.specs.declared.Ran.{Ran}
 use Rattle.scan.specs.Answer.{Said, said, answerOf}
 use Rattle.scan.specs.Call as single-call
 use Rattle.scan.specs.Call.{Begun, scanInRange, askedAnswer, numbersListed, giveOf, beginOf, runOf}
+use Rattle.room.specs.Room.{longestIn}
 use Rattle.mdx_collect.specs.Collect.{Collected, collected, pieceOf, collectOf}
 use Rattle.worker.specs.declared.Place.{Place}
 use Rattle.worker.specs.declared.Worker.{Worker}
@@ -87,9 +88,9 @@ module _ (i : ℕ) (w : Worker) where
 -- ---- a worker started
 
 module _ (q words : ℕ) (w : Worker) (e : w ≡ freshOf q words) where
-  pub start-yes : workerInRange w ≡ true → left w (said 34 []) [] ≡ startOf q words
+  pub start-yes : (longest : List ℕ) → longest ≡ longestIn words → workerInRange w ≡ true → left w (said 34 longest) [] ≡ startOf q words
   unfolding startOf
-  start-yes r = ap (λ (v : Worker). left v (said 34 []) []) e ∙ if-yes _ _ _ _ _ (sym (ap workerInRange e) ∙ r) refl
+  start-yes longest l r = ap₂ (λ (v : Worker) (k : List ℕ). left v (said 34 k) []) e l ∙ if-yes _ _ _ _ _ (sym (ap workerInRange e) ∙ r) refl
 
   pub start-no : workerInRange w ≡ false → refusing w [] ≡ startOf q words
   unfolding startOf

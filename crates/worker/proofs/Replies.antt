@@ -11,14 +11,15 @@ use Rattle.scan.specs.Answer as single
 use Rattle.scan.specs.Answer.{Said}
 use Rattle.scan.proofs.Saids as single-saids
 use Rattle.scan.proofs.Saids.{answerSaid}
+use Rattle.room.proofs.Saids.{longestSaid, longest-back}
 use Rattle.worker.specs.declared.Reply.{Reply}
 use Rattle.worker.specs.declared.Reply.the-variants.{Started, Placed, Served, Idle, InPage, InScratch, NoPlace, Answered}
 use Rattle.worker.specs.Reply.{saidBy}
 
 -- the numbers that are the worker's alone, read back
-abbrev table : (ℕ → ℕ) → List (ℕ × Reply)
-table v =
-    (34, Started)
+abbrev table : List ℕ → (ℕ → ℕ) → List (ℕ × Reply)
+table values v =
+    (34, Started (longestSaid values))
     ∷ (35, Placed (v 0))
     ∷ (36, Served (v 0))
     ∷ (37, Idle)
@@ -29,7 +30,7 @@ table v =
 
 -- every other number is a single scan's
 pub replySaid : Said → Reply
-replySaid a = find (a .number) (table (λ k. getD (a .values) k 0)) (Answered (answerSaid a))
+replySaid a = find (a .number) (table (a .values) (λ k. getD (a .values) k 0)) (Answered (answerSaid a))
 
 answered : (a : Answer) → replySaid (single.saidBy a) ≡ Answered (answerSaid (single.saidBy a))
 unfolding replySaid find if_then_else_
@@ -51,7 +52,7 @@ answered Kept = refl
 
 pub read-back : (r : Reply) → replySaid (saidBy r) ≡ r
 unfolding replySaid find if_then_else_
-read-back Started = refl
+read-back (Started l) = ap Started (longest-back l)
 read-back (Placed i) = refl
 read-back (Served i) = refl
 read-back Idle = refl

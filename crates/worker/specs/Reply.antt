@@ -8,13 +8,14 @@ use mathlib.Core.List.{List, [], _∷_}
 use Rattle.scan.specs.Answer as single
 use Rattle.scan.specs.Answer.{Said, said, refused}
 use Rattle.worker.specs.declared.Worker.{Worker}
+use Rattle.room.specs.Room.{longestBy}
 use Rattle.worker.specs.declared.Reply.{Reply}
 use Rattle.worker.specs.declared.Reply.the-variants.{Started, Placed, Served, Idle, InPage, InScratch, NoPlace, Answered}
 use Rattle.worker.specs.declared.Called.{Called}
 
 -- what each case of the enum says. The numbers from 34 on are docs/NUMBERS.md's
 abbrev pub saidBy : Reply → Said
-saidBy Started = said 34 []
+saidBy (Started l) = said 34 (longestBy l)
 saidBy (Placed i) = said 35 (i ∷ [])
 saidBy (Served i) = said 36 (i ∷ [])
 saidBy Idle = said 37 []

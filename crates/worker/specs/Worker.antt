@@ -19,6 +19,7 @@ use Rattle.page.specs.Page.{liesInside, pageOf}
 use Rattle.scan.specs.Answer.{said, answerOf}
 use Rattle.scan.specs.Call as single
 use Rattle.scan.specs.Call.{Begun, started, notStarted, numbersListed, giveOf, beginOf, runOf}
+use Rattle.room.specs.Room.{longestIn}
 use Rattle.mdx_collect.specs.Collect.{Collected, collectOf}
 use Rattle.worker.specs.declared.Place.{Place}
 use Rattle.worker.specs.declared.Worker.{Worker}
@@ -26,7 +27,8 @@ use Rattle.worker.specs.Ring.{places}
 use Rattle.worker.specs.Place.{placeOf, freePlace, placeIn, ended, placeInRange, nextIn, lowestIn, stored, workerInRange, holds}
 use Rattle.worker.specs.Reply.{Left, left, refusing}
 
--- ---- a worker started
+-- ---- a worker started: "The worker's start then says, for its buffer, the longest page within the limit that cannot run full, or that there
+-- is none" (docs/SCOPE.md, 'Event room')
 
 -- the last place counts as served, so that the ring begins at 0
 abbrev pub freshOf : ℕ → ℕ → Worker
@@ -34,7 +36,7 @@ freshOf q words = record { places = replicate places freePlace; last = places - 
 
 unfoldable pub startOf : ℕ → ℕ → Left
 startOf q words =
-    if workerInRange (freshOf q words) then left (freshOf q words) (said number.started []) []
+    if workerInRange (freshOf q words) then left (freshOf q words) (said number.started (longestIn words)) []
     else refusing (freshOf q words) []
 
 -- ---- admission

@@ -5,7 +5,9 @@ use crate::Reply;
 use crate::Worker;
 use crate::places::PLACES;
 use crate::places::free_place;
+use events::room_in;
 use events::share::share_of;
+use room::longest_page;
 use scan::Began;
 use scan::Scan;
 use scan::beginning::numbers_listed;
@@ -18,7 +20,8 @@ ghost use Rattle.worker.specs.Reply.{leftBy};
 ghost use Rattle.worker.specs.Worker.{startOf, placedBy, admitOf};
 
 impl Worker {
-    // A worker with turns of q steps, over an event buffer of so many words. Where q is refused, so is every call on what is handed back.
+    // A worker with turns of q steps, over an event buffer of so many words, and the longest page that cannot run full in it. Where q is
+    // refused, so is every call on what is handed back.
     pub fn new(q: usize, words: usize) -> Called
         ensures { λ r. ⌜ leftBy r [] ≡ startOf q words ⌝ }
     {
@@ -30,10 +33,9 @@ impl Worker {
             words,
         };
         if worker.in_range() {
-            return Called {
-                worker,
-                reply: Reply::Started,
-            };
+            let longest = longest_page(room_in(share_of(words)));
+            let reply = Reply::Started(longest);
+            return Called { worker, reply };
         }
         worker.refuse()
     }

@@ -2,6 +2,7 @@
 //
 // A worker is started and takes pages in `admitting`; `turning` serves them, `judging` hears a verdict, `collecting` gives an answer and
 // frees a place, and `reading` finds what a place has in the memory that its caller lends. `places` has what they share.
+use room::Longest;
 use scan::Answer;
 use scan::Scan;
 
@@ -30,8 +31,8 @@ pub struct Worker {
 // What a call is answered. Its cases are told apart by number, and no number has two cases: what a single scan is answered too is
 // `Answered`.
 pub enum Reply {
-    // A worker is started.
-    Started,
+    // A worker is started; this is the longest page that cannot run full in any of its places.
+    Started(Longest),
     // A page is admitted to this place.
     Placed(usize),
     // A turn went to this place.

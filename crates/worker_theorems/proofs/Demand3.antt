@@ -7,23 +7,21 @@ use mathlib.Core.Path.{_≡_, refl, sym, ap, _∙_, subst}
 use mathlib.Core.Logic.{_⊎_, inl, inr, by-cases}
 use mathlib.Core.Bool.{Bool, true, false, _&&_}
 use mathlib.Core.List.{List, [], _∷_}
-use lib.ListN.{length, getD, set, drop, length-drop}
+use lib.ListN.{length, set, drop, length-drop}
 use lib.Seq.{getD-set-same, length-take-le}
 use lib.Dec.{leb}
 use borrow.Author.Tests.{lt-ltb, leb-false}
-use Rattle.base.specs.If.{among}
 use Rattle.base.specs.Number as number
 use Rattle.base.specs.State.{asking}
 use Rattle.base.specs.declared.Verdict.{Verdict}
 use Rattle.events.specs.Share.{shareOf, shareIn}
 use Rattle.tokenizer.specs.declared.Job.{Job}
 use Rattle.scan.specs.Scan.{stepBound}
-use Rattle.scan.specs.Answer.{Said, said, answerOf}
+use Rattle.scan.specs.Answer.{said, answerOf}
 use Rattle.scan.specs.Call.{jobOf, freshIn, freshScan}
 use Rattle.scan.proofs.Begun.{begins}
 use Rattle.scan_theorems.proofs.Calls.{job-in-range}
 use Rattle.scan_theorems.proofs.Scans.{Within, within-fresh}
-use Rattle.scan_theorems.proofs.Tests.{clash}
 use Rattle.worker.specs.declared.Place.{Place}
 use Rattle.worker.specs.Place.{placeOf, beyond, placeIn, running, stateOf}
 use Rattle.worker.specs.Reply.{Left}
@@ -31,12 +29,11 @@ use Rattle.worker.specs.Ring.{after}
 use Rattle.worker.proofs.Laws.{collect-gives}
 use Rattle.worker_theorems.specs.Calls.{Page, admit, collect, State, answer, next, afterCalls, placeAt, eventsOf}
 use Rattle.worker_theorems.specs.Demand3.{verdictsTo, turnsWhile, bound, textOf, scanAlone, listAlone, Promise, begun, Demand3}
-use Rattle.worker_theorems.specs.Ranges.{refuses}
 use Rattle.worker_theorems.proofs.Fair.{Good, At, Here, is-held, reads-events, stays-good, good-calls, by-calls, soon-of}
 use Rattle.worker_theorems.proofs.Ranged.{started-ranged}
 use Rattle.worker_theorems.proofs.Ring.{gap-small}
 use Rattle.worker_theorems.proofs.Single.{reached-first, reached-rest}
-use Rattle.worker_theorems.proofs.Views.{view-admit}
+use Rattle.worker_theorems.proofs.Views.{view-placed}
 
 fresh-parts : (page : List ℕ) (j : Job) → (freshScan page j .tokenizer .job ≡ j) × (freshScan page j .used ≡ 0)
 unfolding freshIn
@@ -45,36 +42,23 @@ fresh-parts page j = (refl, refl)
 -- ---- the admission
 
 module _ (len q : ℕ) (bytes : List ℕ) (p : Page) (i : ℕ) (s : State) (g : Good len q s) where
-  -- an admission that is refused gives no place
-  no-place : {A : Type 0} (a : Said) → refuses a ≡ true → a ≡ said number.placed (i ∷ []) → A
-  unfolding among
-  no-place a e f = clash (refuses a) e (ap refuses f)
-
-  same-place : (k : ℕ) → said number.placed (k ∷ []) ≡ said number.placed (i ∷ []) → k ≡ i
-  same-place k e = ap (λ (a : Said). getD (a .values) 0 0) e
-
   -- the place that was given is one of the sixteen
   placed-small : answer (admit bytes p) s ≡ said number.placed (i ∷ []) → i < 16
-  placed-small =
-      view-admit (λ (d : Left). d .answer ≡ said number.placed (i ∷ []) → i < 16) (s .worker) bytes p
-      (λ a e f. no-place a e f)
-      (λ k n hk t b e. let x : k ≡ i = same-place k e in omega arith)
+  placed-small e = view-placed (λ (d : Left). i < 16) (s .worker) bytes p i e (λ n hi b. hi)
 
   -- the page as it was admitted: whatever its share holds, none of its events are there
   begins-at : (hi : i < 16) → answer (admit bytes p) s ≡ said number.placed (i ∷ []) → Here len q (textOf bytes p) p i hi [] 0 (next (admit bytes p) s)
-  begins-at hi =
-      view-admit (λ (d : Left). d .answer ≡ said number.placed (i ∷ []) → At len q (textOf bytes p) p i hi [] 0 (d .worker .last) (placeIn (d .worker .places) i) (shareIn (shareOf (d .worker .words)) i (s .words))) (s .worker) bytes p
-      (λ a e f. no-place a e f)
-      (λ k n hk t b e.
-      let x : k ≡ i = same-place k e in
+  begins-at hi e =
+      view-placed (λ (d : Left). At len q (textOf bytes p) p i hi [] 0 (d .worker .last) (placeIn (d .worker .places) i) (shareIn (shareOf (d .worker .words)) i (s .words))) (s .worker) bytes p i e
+      (λ n hk b.
       let f = begins bytes (p .at) (p .long) (p .start) (p .construct) (p .kind) (p .flags) (shareOf (s .worker .words)) n b in
       let j : Job = jobOf (p .construct) (p .kind) (p .flags) (p .long) (p .start) (shareOf len) in
       let en : n ≡ freshScan (textOf bytes p) j = f .fresh ∙ ap (λ (w : ℕ). freshScan (textOf bytes p) (jobOf (p .construct) (p .kind) (p .flags) (p .long) (p .start) (shareOf w))) (g .ranged .lent) in
       let l : length (textOf bytes p) ≡ p .long = length-take-le (p .long) (drop (p .at) bytes) (omega (arith, length-drop (p .at) bytes, f .admitted .lies)) in
       let w : Within (textOf bytes p) (freshScan (textOf bytes p) j) = within-fresh (textOf bytes p) j (job-in-range bytes (p .at) (p .long) (p .start) (p .construct) (p .kind) (p .flags) (shareOf len) (f .listed) (f .admitted)) l in
       let z = fresh-parts (textOf bytes p) j in
-      let o : placeIn (set (s .worker .places) k (placeOf true (p .at) n)) i ≡ placeOf true (p .at) (freshScan (textOf bytes p) j) =
-      ap (λ (m : ℕ). placeIn (set (s .worker .places) m (placeOf true (p .at) n)) i) x ∙ getD-set-same (s .worker .places) i (placeOf true (p .at) n) beyond (omega (arith, g .ranged .size)) ∙ ap (placeOf true (p .at)) en in
+      let o : placeIn (set (s .worker .places) i (placeOf true (p .at) n)) i ≡ placeOf true (p .at) (freshScan (textOf bytes p) j) =
+      getD-set-same (s .worker .places) i (placeOf true (p .at) n) beyond (omega (arith, g .ranged .size)) ∙ ap (placeOf true (p .at)) en in
       subst (λ (y : Place). At len q (textOf bytes p) p i hi [] 0 (s .worker .last) y (shareIn (shareOf (s .worker .words)) i (s .words))) (sym o)
       (record {
         n = 0;
@@ -122,7 +106,7 @@ module _ (len q : ℕ) (bytes : List ℕ) (p : Page) (i : ℕ) (hi : i < 16) (vs
 pub no-page-holds-up-another : Demand3
 no-page-holds-up-another q events before since bytes p i starts placed fair =
     let len = length events in
-    let g : Good len q (begun q events) = record { ranged = started-ranged q len (ap (λ (a : Said). a .number) starts); room = refl } in
+    let g : Good len q (begun q events) = record { ranged = started-ranged q len starts; room = refl } in
     let s₀ = afterCalls before (begun q events) in
     let g₀ = good-calls len q before (begun q events) g in
     let hi = placed-small len q bytes p i s₀ g₀ placed in

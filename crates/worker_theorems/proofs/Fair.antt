@@ -31,7 +31,7 @@ use Rattle.scan.specs.Scan.{stepBound, runScan, runEvents, runWords}
 use Rattle.scan.specs.Call.{givable, givenScan, jobOf, freshScan}
 use Rattle.scan.proofs.Pausing.{events-are-counted}
 use Rattle.scan_theorems.proofs.Scans.{Within, within-run, run-ends, within-given, job-kept}
-use Rattle.scan_theorems.proofs.Left as steps
+use Rattle.scan_theorems.proofs.Due as steps
 use Rattle.worker.specs.declared.Place.{Place}
 use Rattle.worker.specs.declared.Worker.{Worker}
 use Rattle.worker.specs.Place.{placeOf, freePlace, beyond, placeIn, running, stateOf, nextIn, placeInRange, holds}
@@ -58,7 +58,7 @@ pub runs-no : (n : ℕ) → leb 32 n ≡ true → rests n ≡ false
 runs-no n e = le-ltb n 32 (leb-true 32 n e)
 
 -- a page that runs is not finished
-runs-unfinished : (p : Place) → running p ≡ true → unfinished p ≡ true
+pub runs-unfinished : (p : Place) → running p ≡ true → unfinished p ≡ true
 runs-unfinished p r =
     let a = both (p .taken) _ r in
     and-yes _ _ (a .0) (ap not (le-ltb (stateOf p) asking (omega (arith, leb-true 32 (stateOf p) (a .1)))))
@@ -74,7 +74,7 @@ given-same s v = (refl, refl, refl)
 snoc-long : {A : Type 0} (l : List A) (a : A) → length (l ++ (a ∷ [])) ≡ suc (length l)
 snoc-long l a = omega (arith, length-append l (a ∷ []))
 
-givable-parts : (s : Scan) (v : Verdict) → givable s v ≡ true → (s .tokenizer .state ≡ asking) × (verdictInRange v ≡ true)
+pub givable-parts : (s : Scan) (v : Verdict) → givable s v ≡ true → (s .tokenizer .state ≡ asking) × (verdictInRange v ≡ true)
 unfolding givable
 givable-parts s v e =
     let a = both (eqb (s .tokenizer .state) asking) _ e in

@@ -5,6 +5,7 @@ pub mod Isolated
 pub mod Ranged
 pub mod Refused
 pub mod Ring
+pub mod Room
 pub mod Single
 pub mod Turns
 pub mod Views

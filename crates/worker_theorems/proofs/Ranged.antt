@@ -4,7 +4,7 @@ use native.Mathlib.Omega.{arith}
 use native.Mathlib.Decide.{ℕ-discrete}
 use mathlib.Core.Path.{_≡_, refl, sym, ap, _∙_, subst}
 use mathlib.Core.Logic.{_≢_, by-cases}
-use mathlib.Core.Bool.{true, false, not, _||_, true≢false}
+use mathlib.Core.Bool.{true, not, _||_, true≢false}
 use mathlib.Core.List.{List, [], _∷_}
 use lib.ListN.{length, set, length-set, getD-replicate}
 use lib.Seq.{getD-set-same, getD-set-other}
@@ -201,6 +201,6 @@ started-ranged q words e = let a = started-is q words e in subst (Ranged words q
 pub ranges-are-closed : RangesClosed
 ranges-are-closed =
     record {
-      start = λ q words e. of-ranged words q _ (started-ranged q words (ap (λ (a : _). a .number) e));
+      start = λ q words e. of-ranged words q _ (started-ranged q words e);
       call = λ x w e. of-ranged (w .words) (w .q) _ (after-call (w .words) (w .q) w (ranged-of w e) x);
     }

@@ -4,7 +4,7 @@ use native.Mathlib.Omega.{arith}
 use mathlib.Core.Path.{_≡_, refl, sym, ap, _∙_, subst}
 use mathlib.Core.Bool.{true, false, not}
 use mathlib.Core.List.{List, [], _∷_}
-use lib.ListN.{length, set}
+use lib.ListN.{length, getD, set}
 use lib.Seq.{set-getD}
 use lib.Dec.{eqb}
 use borrow.Author.Tests.{leb-false, eqb-true}
@@ -13,12 +13,11 @@ use Rattle.base.proofs.Choice.{if-is, case, both, not-yes}
 use Rattle.base.specs.Number as number
 use Rattle.base.specs.declared.Verdict.{Verdict}
 use Rattle.events.specs.Share.{shareOf}
-use Rattle.page.specs.Page.{pageCheck}
-use Rattle.page.specs.declared.Checked.{Checked}
-use Rattle.page.specs.declared.Checked.the-variants as checked
 use Rattle.scan.specs.declared.Scan.{Scan}
-use Rattle.scan.specs.Answer.{Said, said, refused, answerOf}
-use Rattle.scan.specs.Call.{Begun, started, notStarted, begunIf, numbersListed, jobOf, beginOf, givable, givenScan, giveOf}
+use Rattle.scan.specs.Answer.{Said, said, answerOf}
+use Rattle.scan.specs.Call.{Begun, started, notStarted, beginOf, givable, givenScan, giveOf}
+use Rattle.scan_theorems.proofs.Calls.{not-begun}
+use Rattle.scan_theorems.proofs.Tests.{clash}
 use Rattle.worker.specs.declared.Place.{Place}
 use Rattle.worker.specs.declared.Worker.{Worker}
 use Rattle.worker.specs.Place.{placeOf, freePlace, beyond, placeIn, running, ended, nextIn, lowestIn, stored, workerInRange, holds}
@@ -29,23 +28,6 @@ use Rattle.worker.proofs.Laws.{held}
 use Rattle.worker_theorems.specs.Calls.{Page, admit, callOf}
 use Rattle.worker_theorems.specs.Ranges.{refuses}
 use Rattle.worker_theorems.proofs.Ring.{seek-holds}
-
--- a scan that is not begun is refused by 12, 2, 3 or 4
-not-begun : (bytes : List ℕ) (at n start construct kind flags words : ℕ) (a : Said) → beginOf bytes at n start construct kind flags words ≡ notStarted a → refuses a ≡ true
-unfolding beginOf if_then_else_ among
-not-begun bytes at n start construct kind flags words a e =
-    case _ (numbersListed construct kind flags)
-    (λ l. by (pageCheck bytes at n start) (rw l at e))
-    (λ l. told refused (rw l at e) refl)
-  where
-    told : (x : Said) → notStarted x ≡ notStarted a → refuses x ≡ true → refuses a ≡ true
-    told x f g = let h : x ≡ a = cc in rw h at g
-
-    by : (x : Checked) → begunIf x (jobOf construct kind flags n start words) ≡ notStarted a → refuses a ≡ true
-    by (checked.Good line) f = let z : _≡_ {A = ℕ} 0 1 = cc in absurd (omega (arith, z))
-    by checked.TooLong f = told _ f refl
-    by checked.BadStart f = told _ f refl
-    by (checked.BadText p) f = told _ f refl
 
 -- a place stored as it was
 stored-same : (i : ℕ) (w : Worker) → placeIn (w .places) i .taken ≡ true → stored w i (placeOf true (placeIn (w .places) i .at) (placeIn (w .places) i .scan)) (w .last) ≡ w
@@ -74,7 +56,7 @@ module _ (P : Left → Type 0) (w : Worker) where
       if-is Left P _ _ _ (λ f. same _ refl)
       (λ f.
       let h : k < 16 = leb-false 16 k f in
-      placed k (p .at) _ (λ a g. same a (not-begun bytes (p .at) (p .long) (p .start) (p .construct) (p .kind) (p .flags) (shareOf (w .words)) a g))
+      placed k (p .at) _ (λ a g. same a (not-begun (λ (x : Said). refuses x ≡ true) bytes (p .at) (p .long) (p .start) (p .construct) (p .kind) (p .flags) (shareOf (w .words)) (λ l. refl) refl refl (λ x. refl) a g))
       (λ s g. given k s h (not-yes _ (seek-holds (λ j. not (placeIn (w .places) j .taken)) 16 0 h)) g)))
       (λ e. same _ refl)
 
@@ -120,3 +102,17 @@ module _ (P : Left → Type 0) (w : Worker) where
       let h : k < 16 = leb-false 16 k f in
       if-is Left P _ _ _ (λ r. serves k h (eqb-true (length lent) (w .words) (b .0)) (b .1) (seek-holds (λ j. running (placeIn (w .places) j)) 16 (after (w .last)) h) r) (λ r. same)))
       (λ e. same)
+
+-- an admission that gave place i
+pub view-placed : (P : Left → Type 0) (w : Worker) (bytes : List ℕ) (p : Page) (i : ℕ) → callOf (admit bytes p) w .answer ≡ said number.placed (i ∷ [])
+    → ((s : Scan) → i < 16 → beginOf bytes (p .at) (p .long) (p .start) (p .construct) (p .kind) (p .flags) (shareOf (w .words)) ≡ started s
+    → P (left (stored w i (placeOf true (p .at) s) (w .last)) (said number.placed (i ∷ [])) []))
+    → P (callOf (admit bytes p) w)
+unfolding among
+view-placed P w bytes p i e given =
+    view-admit (λ (d : Left). d .answer ≡ said number.placed (i ∷ []) → P d) w bytes p
+    (λ a r f. clash (refuses a) r (ap refuses f))
+    (λ k s hk t b f.
+    let x : i ≡ k = sym (ap (λ (a : Said). getD (a .values) 0 0) f) in
+    subst (λ (j : ℕ). P (left (stored w j (placeOf true (p .at) s) (w .last)) (said number.placed (j ∷ [])) [])) x (given s (omega arith) b))
+    e

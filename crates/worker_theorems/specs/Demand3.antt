@@ -139,7 +139,7 @@ Demand3 =
     let s₁ = next (admit bytes p) s₀ in
     let vs = verdictsTo i since s₁ in
     let words = shareOf (length events) in
-    startOf q (length events) .answer ≡ said number.started []
+    startOf q (length events) .answer .number ≡ number.started
     → answer (admit bytes p) s₀ ≡ said number.placed (i ∷ [])
     → Fair i (textOf bytes p) since s₁
     → Promise q (bound p) i (scanAlone bytes p vs words) (listAlone bytes p vs words) (length vs) (turnsWhile i since s₁) (afterCalls since s₁)

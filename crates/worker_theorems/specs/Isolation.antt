@@ -41,7 +41,7 @@ heard h i = verdictsTo i (h .since) (admitted h)
 
 -- the page is admitted to place i, and not collected
 pub record Stays (h : History) (i : ℕ) : Type 0 where
-  pub starts : startOf (h .q) (length (h .events)) .answer ≡ said number.started []
+  pub starts : startOf (h .q) (length (h .events)) .answer .number ≡ number.started
   pub placed : answer (admit (h .bytes) (h .page)) (early h) ≡ said number.placed (i ∷ [])
   pub fair : Fair i (textOf (h .bytes) (h .page)) (h .since) (admitted h)
 

@@ -2,3 +2,4 @@ pub mod Calls
 pub mod Demand3
 pub mod Isolation
 pub mod Ranges
+pub mod Room

@@ -5,7 +5,7 @@ use mathlib.Core.Bool.{Bool, true}
 use mathlib.Core.List.{[], _∷_}
 use Rattle.base.specs.If.{among}
 use Rattle.base.specs.Number as number
-use Rattle.scan.specs.Answer.{Said, said}
+use Rattle.scan.specs.Answer.{Said}
 use Rattle.worker.specs.declared.Worker.{Worker}
 use Rattle.worker.specs.Place.{allInRange}
 use Rattle.worker.specs.Worker.{startOf}
@@ -14,7 +14,7 @@ use Rattle.worker_theorems.specs.Calls.{Ask, callOf, lentTo}
 -- "a state outside the ranges docs/ lists (all that calls give are inside)": a worker that is started is in range, and every call on a
 -- worker in range gives one in range, whatever it is lent
 pub record RangesClosed : Type 0 where
-  pub start : (q words : ℕ) → startOf q words .answer ≡ said number.started [] → allInRange (startOf q words .worker) ≡ true
+  pub start : (q words : ℕ) → startOf q words .answer .number ≡ number.started → allInRange (startOf q words .worker) ≡ true
   pub call : (x : Ask) (w : Worker) → allInRange w ≡ true → allInRange (callOf x w .worker) ≡ true
 
 -- 12, 11, 2, 3 and 4: "come before any step and write nothing"
