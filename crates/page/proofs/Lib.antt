@@ -7,3 +7,4 @@ pub mod Answers
 pub mod Lines
 pub mod Passing
 pub mod Rechecked
+pub mod Bytes

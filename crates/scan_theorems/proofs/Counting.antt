@@ -2,7 +2,7 @@
 -- a single scan in one call, unless its page is refused.
 use Prim.Native.Nat.{ℕ, _+_, _-_, _*_, _%_, _<_}
 use native.Mathlib.Omega.{arith}
-use mathlib.Core.Path.{_≡_, refl}
+use mathlib.Core.Path.{_≡_, refl, sym}
 use mathlib.Core.Bool.{true, false}
 use mathlib.Core.List.{List, [], _∷_}
 use lib.ListN.{length}
@@ -42,11 +42,11 @@ first-is P construct e t x = if-is ℕ P (eqb construct esm) _ _ (λ c. e) (λ c
 
 -- ---- what a scan without a verdict source keeps
 
-record Silent (page : List ℕ) (s : Scan) : Type 0 where
-  within : Within page s
-  counts : Counts (s .tokenizer)
+pub record Silent (page : List ℕ) (s : Scan) : Type 0 where
+  pub within : Within page s
+  pub counts : Counts (s .tokenizer)
 
-silent-step : (page : List ℕ) (s : Scan) → rests (s .tokenizer .state) ≡ false → Silent page s → Silent page (stepScan page s)
+pub silent-step : (page : List ℕ) (s : Scan) → rests (s .tokenizer .state) ≡ false → Silent page s → Silent page (stepScan page s)
 unfolding stepScan choice
 silent-step page s r h =
     let t = s .tokenizer in
@@ -59,7 +59,7 @@ silent-step page s r h =
           (λ c. counts-tag page t (h .counts) (p .regs .back) (low (t .job .construct) (t .state) c (p .state) r)));
     }
 
-silent-fresh : (page : List ℕ) (j : Job) → jobInRange j ≡ true → length page ≡ j .length → j .asks ≡ false → Silent page (freshScan page j)
+pub silent-fresh : (page : List ℕ) (j : Job) → jobInRange j ≡ true → length page ≡ j .length → j .asks ≡ false → Silent page (freshScan page j)
 unfolding freshIn
 silent-fresh page j h l a =
     record {
@@ -68,6 +68,25 @@ silent-fresh page j h l a =
     }
 
 -- ---- the answer
+
+-- a scan answers the number of the state that it rests in: no number but that of a pause, or of a scan that no call gave
+pub answers-its-state : (x : ℕ) → eqb number.paused x ≡ false → eqb number.badCall x ≡ false → (s : Scan) → eqb (s .tokenizer .state) x ≡ false → eqb (answerOf s .number) x ≡ false
+unfolding answerOf refusal verdictRefusal
+answers-its-state x p c s f =
+    if-is Said Other (leb state.firstRunning n) _ _ (λ e. p)
+    (λ e.
+    found Other n (endAnswers s) _ (same state.done & same state.nok & same state.asking & tt)
+    (found Other n (pageAnswers s) _ (same state.notAscii & same state.eof & same state.unexpected & same state.full & tt)
+    (found Other n (verdictAnswers s) _ (same state.verdictError & same state.verdictEof & tt) c)))
+  where
+    n : ℕ
+    n = s .tokenizer .state
+
+    Other : Said → Type 0
+    Other a = eqb (a .number) x ≡ false
+
+    same : (name : ℕ) → n ≡ name → eqb name x ≡ false
+    same name k = rw (sym k) f
 
 -- the answers of a scan that a scan without a verdict source does not give
 abbrev otherAnswers : List ℕ
@@ -113,7 +132,7 @@ a-scan-without-verdicts-ends page j k h l a b =
 -- ---- a single scan in one call
 
 -- a new scan is run, if there is an allowance
-fresh-runnable : (page : List ℕ) (j : Job) (allowance : ℕ) → 0 < allowance → jobInRange j ≡ true → length page ≡ j .length
+pub fresh-runnable : (page : List ℕ) (j : Job) (allowance : ℕ) → 0 < allowance → jobInRange j ≡ true → length page ≡ j .length
     → runnable (freshScan page j) (length page) (j .words) allowance ≡ true
 unfolding runnable freshIn
 fresh-runnable page j allowance p h l =

@@ -7,14 +7,13 @@ use mathlib.Core.List.{List, [], _∷_}
 use lib.ListN.{length, getD, length-append}
 use lib.Dec.{leb, ltb, eqb}
 use borrow.Author.Tests.{eq-eqb, le-ltb}
-use Rattle.base.proofs.Tables.{_&_, found}
 use Rattle.base.specs.If.{if_then_else_}
 use Rattle.base.proofs.Choice.{if-is, case}
-use Rattle.base.specs.Page.{pageLimit, byteAt}
+use Rattle.base.specs.Page.{pageLimit}
 use Rattle.base.specs.Number as number
 use Rattle.base.specs.State as state
 use Rattle.base.specs.State.{rests}
-use Rattle.base.specs.Decide.{listOf, countOf}
+use Rattle.base.specs.Decide.{countOf}
 use Rattle.base.specs.declared.Verdict.{Verdict}
 use Rattle.page.specs.Page.{pageOf}
 use Rattle.events.specs.Words.{width, roomIn}
@@ -23,8 +22,8 @@ use Rattle.tokenizer.specs.declared.Job.{Job}
 use Rattle.tokenizer.specs.Ranges.{esm, jobInRange, verdictInRange}
 use Rattle.room.specs.Room.{eventsEnough, enoughOf}
 use Rattle.scan.specs.declared.Scan.{Scan}
-use Rattle.scan.specs.Answer.{Said, endAnswers, pageAnswers, verdictAnswers, verdictRefusal, refusal, answerOf}
-use Rattle.scan.specs.Scan.{choice, marksAt, stepScan, runScan, runEvents}
+use Rattle.scan.specs.Answer.{Said, answerOf}
+use Rattle.scan.specs.Scan.{choice, lacks, stepScan, runScan, runEvents}
 use Rattle.scan.specs.Call.{runnable, runOf, givenScan, jobOf, freshIn, freshScan, Begun, started, notStarted, beginOf, Left, ranFrom, singleOf}
 use Rattle.scan.specs.Alone.{toldScan, runAlone, eventsAlone}
 use Rattle.scan.proofs.Begun.{begins}
@@ -39,7 +38,7 @@ use Rattle.scan_theorems.proofs.Falls.{falls}
 use Rattle.scan_theorems.proofs.Scans.{eventBound, Within, within-range, within-step, within-given, within-fresh, within-alone, alone-keeps, told-keeps, calls-keep, alone-job}
 use Rattle.scan_theorems.proofs.Calls.{page-long, job-in-range, not-begun}
 use Rattle.scan_theorems.proofs.ExactRows.{exact-rows}
-use Rattle.scan_theorems.proofs.Counting.{first-is}
+use Rattle.scan_theorems.proofs.Counting.{first-is, answers-its-state}
 
 -- ---- how many events
 
@@ -71,14 +70,15 @@ pub record Roomy (page : List ℕ) (s : Scan) : Type 0 where
   pub goesOn : eqb (s .tokenizer .state) state.full ≡ false
 
 -- what a step writes fits
-fits : (page : List ℕ) (s : Scan) → rests (s .tokenizer .state) ≡ false → Roomy page s → tooManyEvents page s ≡ false
+pub has-room : (page : List ℕ) (s : Scan) → rests (s .tokenizer .state) ≡ false → Roomy page s → lacks s (choice page s) ≡ false
 unfolding choice
-fits page s r h =
+has-room page s r h =
     let marks = choice page s .marks in
-    let now = marksAt (byteAt page (s .tokenizer .at)) s (listOf marks) in
-    let count : length now ≡ countOf marks = count-is marks _ _ in
-    le-ltb (roomIn (s .tokenizer .job .words) - s .used) (length now)
-    (omega (arith, count, price-events marks, falls events page (s .tokenizer) (h .within .sound) r, h .within .written, h .enough))
+    le-ltb (roomIn (s .tokenizer .job .words) - s .used) (countOf marks)
+    (omega (arith, price-events marks, falls events page (s .tokenizer) (h .within .sound) r, h .within .written, h .enough))
+
+fits : (page : List ℕ) (s : Scan) → rests (s .tokenizer .state) ≡ false → Roomy page s → tooManyEvents page s ≡ false
+fits page s r h = ap (ltb (roomIn (s .tokenizer .job .words) - s .used)) (count-is (choice page s .marks) _ _) ∙ has-room page s r h
 
 pub roomy-step : (page : List ℕ) (s : Scan) → rests (s .tokenizer .state) ≡ false → Roomy page s → Roomy page (stepScan page s)
 roomy-step page s r h =
@@ -108,22 +108,7 @@ roomy-fresh page j h l e =
 
 -- a scan that is not full does not answer so
 pub not-full : (s : Scan) → eqb (s .tokenizer .state) state.full ≡ false → NotFull (answerOf s)
-unfolding answerOf refusal verdictRefusal
-not-full s f e = clash (eqb (answerOf s .number) state.full) (eq-eqb _ _ e) other
-  where
-    n : ℕ
-    n = s .tokenizer .state
-
-    Other : Said → Type 0
-    Other a = eqb (a .number) state.full ≡ false
-
-    other : Other (answerOf s)
-    other =
-        if-is Said Other (leb state.firstRunning n) _ _ (λ e. refl)
-        (λ e.
-        found Other n (endAnswers s) _ ((λ k. refl) & (λ k. refl) & (λ k. refl) & tt)
-        (found Other n (pageAnswers s) _ ((λ k. refl) & (λ k. refl) & (λ k. refl) & (λ k. clash (eqb n state.full) (rw k refl) f) & tt)
-        (found Other n (verdictAnswers s) _ ((λ k. refl) & (λ k. refl) & tt) refl)))
+not-full s f e = clash (eqb (answerOf s .number) state.full) (eq-eqb _ _ e) (answers-its-state state.full refl refl s f)
 
 pub room-is-enough : NeverFull
 room-is-enough page j k vs h l vr e =

@@ -68,7 +68,7 @@ within-range page s w =
     (and-yes _ _ (le-leb (s .steps) (stepBound (s .tokenizer .job)) (omega (arith, w .paid))) (lines-told (s .lines) (w .lines))))
 
 -- its page is no longer than a page can be
-page-short : (page : List ℕ) (t : Tokenizer) → Sound page t → length page ≤ pageLimit
+pub page-short : (page : List ℕ) (t : Tokenizer) → Sound page t → length page ≤ pageLimit
 page-short page t s = omega (arith, s .size, length-short (t .job) (parts t (s .range) .job))
 
 -- ---- one step
