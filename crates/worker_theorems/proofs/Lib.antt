@@ -1,3 +1,4 @@
+pub mod Closing
 pub mod Demand3
 pub mod Example
 pub mod Fair

@@ -1,4 +1,5 @@
 pub mod Calls
+pub mod Closing
 pub mod Demand3
 pub mod Isolation
 pub mod Ranges

@@ -1,0 +1,13 @@
+pub mod Braces
+pub mod Examples
+pub mod PageEnd
+pub mod Turn
+pub mod TagTurns
+pub mod ExpressionTurns
+pub mod Turns
+pub mod Runs
+pub mod Scans
+pub mod Calls
+pub mod New
+pub mod Ways
+pub mod Closing
