@@ -1,6 +1,6 @@
 //! Writes sets of cases, the same ones for the same arguments.
 
-use programs::sets::{boundaries, exhaustive, lists, random, starts, states, Sink};
+use programs::sets::{boundaries, braces, exhaustive, lists, random, starts, states, Sink};
 use std::io::{self, BufWriter, Write};
 use std::process::ExitCode;
 
@@ -19,13 +19,14 @@ sets:
   valid        valid constructs by chance
   broken       constructs by chance, with errors worked in
   all          all of these
+  braces       every page of `{`, `}` and a letter, as an expression and in tags
   lists        lists of jobs, many openings of one page to a line
 
 options:
   --seed N     seed of chance (1)
   --count N    how many cases each of `valid` and `broken` draws, or lists (100000)
   --longest N  their longest construct, or a list's longest page, about, in bytes (4096)
-  --depth N    letters after the beginning in `tags`, `expressions`, `esm`, `tabs` (5)
+  --depth N    letters after the beginning in `tags`, `expressions`, `esm`, `tabs`, `braces` (5)
   --every N    write one of N cases, and pass over the others (1)
   --allowances have each single case run in pieces (`allowance=`, by chance)
 ";
@@ -33,7 +34,11 @@ options:
 /// Lists of jobs, which only the product takes as such.
 const LISTS: &str = "lists";
 
-/// The sets of single cases.
+/// Where braces close. It is no part of `all`: the recorded answers are chosen
+/// from that (`oracle/record`), and their bytes stay as they are.
+const BRACES: &str = "braces";
+
+/// The sets of single cases that `all` stands for.
 const SETS: [&str; 10] = [
     "settled",
     "large",
@@ -93,7 +98,9 @@ fn options() -> Option<Options> {
             "--every" => options.every = arguments.next()?.parse().ok()?,
             "--allowances" => options.allowances = true,
             "all" => options.sets.extend(SETS.map(String::from)),
-            set if set == LISTS || SETS.contains(&set) => options.sets.push(set.into()),
+            set if [LISTS, BRACES].contains(&set) || SETS.contains(&set) => {
+                options.sets.push(set.into());
+            }
             _ => return None,
         }
     }
@@ -129,6 +136,7 @@ fn put<W: Write>(sink: &mut Sink<W>, set: &str, options: &Options) -> io::Result
         "tabs" => exhaustive::tabs(sink, options.depth),
         "valid" => random::all(sink, options.count, options.longest, false),
         "broken" => random::all(sink, options.count, options.longest, true),
+        BRACES => braces::all(sink, options.depth),
         LISTS => lists::all(sink, options.count, options.longest),
         _ => unreachable!("sets are checked before"),
     }

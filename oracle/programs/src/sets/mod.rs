@@ -6,6 +6,7 @@
 //! set `tabs`, past it.
 
 pub mod boundaries;
+pub mod braces;
 pub mod exhaustive;
 pub mod lists;
 pub mod random;
