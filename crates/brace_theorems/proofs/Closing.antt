@@ -1,6 +1,6 @@
 -- A scan without a verdict source closes its expressions where the rule on braces says: of an expression that stands alone, by its answer, and
 -- of those in a tag, by their events.
-use Prim.Native.Nat.{ℕ, _+_, _-_, _%_, _≤_}
+use Prim.Native.Nat.{ℕ, _+_, _-_, _%_}
 use native.Mathlib.Omega.{arith}
 use mathlib.Core.Path.{_≡_, refl, sym, ap, _∙_, subst}
 use mathlib.Core.Logic.{inl, inr}
@@ -14,13 +14,10 @@ use Rattle.base.specs.If.{if_then_else_}
 use Rattle.base.proofs.Choice.{case, both, and-yes, or-cases, or-yes, or-yes′}
 use Rattle.base.specs.Range.{within}
 use Rattle.base.specs.State as state
-use Rattle.base.specs.State.{rests}
 use Rattle.base.specs.Table.{find}
 use Rattle.mdx_expression.specs.Expression.{inExpression}
 use Rattle.page.specs.Page.{pageOf}
 use Rattle.events.specs.declared.Event.{Event}
-use Rattle.events.specs.Words.{roomIn}
-use Rattle.room.specs.Room.{eventsEnough}
 use Rattle.tokenizer.specs.Ranges.{expression, tag, esm}
 use Rattle.scan.specs.declared.Scan.{Scan}
 use Rattle.scan.specs.Answer.{refusal, answerOf}
@@ -36,7 +33,7 @@ use Rattle.brace_theorems.proofs.Braces.{closing-is-the-first, nothing-
 use Rattle.page.proofs.Bytes.{Bytes, formed-of-bytes}
 use Rattle.brace_theorems.proofs.Turn.{inside, endsInside}
 use Rattle.brace_theorems.proofs.Runs.{past, isNone, Right, AllRight, unclosed, anyUnclosed}
-use Rattle.brace_theorems.proofs.Scans.{Going, outcome, Ending, whole, torn, expression-ends}
+use Rattle.brace_theorems.proofs.Scans.{Going, Settled, outcome, Ending, whole, torn, expression-ends}
 use Rattle.brace_theorems.proofs.New.{going-begun}
 use Rattle.brace_theorems.proofs.Ways.{OfEveryRest, every-way}
 
@@ -161,10 +158,9 @@ module _
     (bytes : List ℕ) (at n start construct kind flags words : ℕ) (s : Scan)
     (low : eqb construct esm ≡ false)
     (even : eqb (flags % 2) 1 ≡ false)
-    (enough : eventsEnough (n - start) ≤ roomIn words)
     (e : beginOf bytes at n start construct kind flags words ≡ started s)
     (k : ℕ)
-    (rested : rests (runScan (pageOf bytes at n) k s .tokenizer .state) ≡ true)
+    (rested : Settled (runScan (pageOf bytes at n) k s))
   where
     abbrev page : List ℕ
     page = pageOf bytes at n
@@ -176,7 +172,7 @@ module _
     bytes-alone = formed-of-bytes (new .text .formed)
 
     going : Going page s
-    going = going-begun bytes at n start construct kind flags words s low even enough e
+    going = going-begun bytes at n start construct kind flags words s low even e
 
     -- it begins in no expression, at its start, and returns nowhere
     not-inside : inside (s .tokenizer .state) ≡ false
@@ -206,10 +202,10 @@ module _
         by-the-rule page start (runScan page k s) (subst (λ (brace : ℕ). Ending page brace (runScan page k s .tokenizer)) at-start x)
 
 expressions-ruled : OfEveryRest expression Expression
-expressions-ruled bytes at n start kind flags words s even enough e k rested = expression-ruled bytes at n start expression kind flags words s refl even enough e k rested refl
+expressions-ruled bytes at n start kind flags words s even e k rested = expression-ruled bytes at n start expression kind flags words s refl even e k rested refl
 
 tags-ruled : OfEveryRest tag Tag
-tags-ruled bytes at n start kind flags words s even enough e k rested = tag-ruled bytes at n start tag kind flags words s refl even enough e k rested
+tags-ruled bytes at n start kind flags words s even e k rested = tag-ruled bytes at n start tag kind flags words s refl even e k rested
 
 pub an-expression-closes-by-the-rule : ExpressionsClose
 an-expression-closes-by-the-rule = every-way expression Expression expressions-ruled

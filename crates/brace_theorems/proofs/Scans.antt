@@ -34,7 +34,7 @@ use Rattle.tokenizer.specs.declared.Job.{Job}
 use Rattle.tokenizer.specs.declared.Tokenizer.{Tokenizer}
 use Rattle.scan.specs.declared.Scan.{Scan}
 use Rattle.scan.specs.Lines.{linePast, pointIn}
-use Rattle.scan.specs.Scan.{choice, carriedOut, marksAt, stepScan, stepEvents, runScan, runEvents}
+use Rattle.scan.specs.Scan.{choice, lacks, carriedOut, marksAt, stepScan, stepEvents, runScan, runEvents}
 use Rattle.scan.proofs.Kept.{step-job}
 use Rattle.scan.proofs.Runs.{run-rest, events-rest}
 use Rattle.brace_theorems.specs.Braces.{closingOf}
@@ -42,16 +42,14 @@ use Rattle.scan_theorems.proofs.Tests.{clash}
 use Rattle.scan_theorems.proofs.Parts.{parts, low}
 use Rattle.scan_theorems.proofs.Scans.{page-short}
 use Rattle.scan_theorems.proofs.Counting.{Silent, silent-step}
-use Rattle.scan_theorems.proofs.Room.{Roomy, has-room, roomy-step}
 use Rattle.page.proofs.Bytes.{Bytes}
 use Rattle.brace_theorems.proofs.Turn.{inside, braceOf, tokenOf, endsInside, Held, Begun, Turn, stays, begins, closes, ends}
 use Rattle.brace_theorems.proofs.ExpressionTurns.{opens}
 use Rattle.brace_theorems.proofs.Turns.{turns}
 use Rattle.brace_theorems.proofs.Runs.{Outcome, after-same, after-begun, after-over, after-cut}
 
--- a scan of a tag or an expression without a verdict source, with room for its events
+-- a scan of a tag or an expression without a verdict source
 pub record Going (page : List ℕ) (s : Scan) : Type 0 where
-  pub roomy : Roomy page s
   pub silent : Silent page s
   pub low : eqb (s .tokenizer .job .construct) esm ≡ false
   pub held : Held page (s .tokenizer)
@@ -69,10 +67,28 @@ pub data Ending (page : List ℕ) (brace : ℕ) (t : Tokenizer) : Type 0 where
   whole : (c : ℕ) → closingOf page brace ≡ some c → t .state ≡ state.done → t .at ≡ c + 1 → Ending page brace t
   torn : closingOf page brace ≡ none → endsInside t ≡ true → t .at ≡ length page → Ending page brace t
 
+-- it does not rest for want of room
+abbrev pub Unfilled : Scan → Type 0
+Unfilled s = eqb (s .tokenizer .state) state.full ≡ false
+
+-- it rests for any other reason
+pub record Settled (s : Scan) : Type 0 where
+  pub rests : rests (s .tokenizer .state) ≡ true
+  pub unfilled : Unfilled s
+
+-- a run that does not come to its end for want of room has room at its first step
+room-first : (page : List ℕ) (k : ℕ) (s : Scan) → Unfilled (runScan page k s) → Unfilled s
+room-first page k s u =
+    case _ (eqb (s .tokenizer .state) state.full)
+    (λ e.
+    let q : rests (s .tokenizer .state) ≡ true = rw (eqb-true (s .tokenizer .state) state.full e) refl in
+    rw (run-rest page s k q) at u)
+    (λ e. e)
+
 module _ (page : List ℕ) (bytes : Bytes page) where
   -- ---- one step
 
-  module _ (s : Scan) (g : Going page s) (r : rests (s .tokenizer .state) ≡ false) where
+  module _ (s : Scan) (g : Going page s) (r : rests (s .tokenizer .state) ≡ false) (u : Unfilled (stepScan page s)) where
     abbrev t : Tokenizer
     t = s .tokenizer
 
@@ -88,14 +104,14 @@ module _ (page : List ℕ) (bytes : Bytes page) where
     turn : Turn page t m
     unfolding choice
     turn =
-        let sound = g .roomy .within .sound in
+        let sound = g .silent .within .sound in
         let p = parts t (sound .range) in
         turns page t (g .held) (sound .size) (page-short page t sound) bytes (g .silent .counts) (p .regs .back) (low (t .job .construct) (t .state) (g .low) (p .state) r)
 
-    -- there is room for what it decides
+    -- there is room for what it decides, since it would be full otherwise
     carried : carriedOut s m ≡ m
-    unfolding if_then_else_
-    carried = rw (has-room page s r (g .roomy)) refl
+    unfolding stepScan moved if_then_else_
+    carried = case _ (lacks s m) (λ l. clash true refl (rw l at u)) (λ l. rw l refl)
 
     step-moved : stepScan page s .tokenizer ≡ moved t m
     unfolding stepScan
@@ -108,7 +124,6 @@ module _ (page : List ℕ) (bytes : Bytes page) where
     step-going : Held page (moved t m) → Going page (stepScan page s)
     step-going h =
         record {
-          roomy = roomy-step page s r (g .roomy);
           silent = silent-step page s r (g .silent);
           low = ap (λ (j : Job). eqb (j .construct) esm) (step-job page s) ∙ g .low;
           held = rw step-moved h;
@@ -149,17 +164,20 @@ module _ (page : List ℕ) (bytes : Bytes page) where
       let i = resting s r in
       record { own = λ x. clash (inside (s .tokenizer .state)) x i; each = tt; six = g .held .goesOn ∙ rw i refl }
 
-  pub outcome : (k : ℕ) (s : Scan) → Going page s → rests (runScan page k s .tokenizer .state) ≡ true
+  pub outcome : (k : ℕ) (s : Scan) → Going page s → Settled (runScan page k s)
       → Outcome page (s .tokenizer) (runEvents page k s) (endsInside (runScan page k s .tokenizer))
   unfolding runScan runEvents if_then_else_
-  outcome zero s g e = at-rest s g e
+  outcome zero s g e = at-rest s g (e .rests)
   outcome (suc k) s g e =
       case _ (rests (s .tokenizer .state)) (λ r. rw r (at-rest s g r))
-      (λ r. rw r (by-turn s g r k (λ n. outcome k (stepScan page s) n (rw r at e)) (turn s g r)))
+      (λ r.
+      let o : Settled (runScan page k (stepScan page s)) = rw r at e in
+      let u = room-first page k (stepScan page s) (o .unfilled) in
+      rw r (by-turn s g r u k (λ n. outcome k (stepScan page s) n o) (turn s g r u)))
 
   -- ---- an expression that stands alone
 
-  module _ (brace : ℕ) (s : Scan) (g : Going page s) (a : Alone brace (s .tokenizer)) (r : rests (s .tokenizer .state) ≡ false) where
+  module _ (brace : ℕ) (s : Scan) (g : Going page s) (a : Alone brace (s .tokenizer)) (r : rests (s .tokenizer .state) ≡ false) (u : Unfilled (stepScan page s)) where
     abbrev after : Tokenizer
     after = stepScan page s .tokenizer
 
@@ -167,8 +185,8 @@ module _ (page : List ℕ) (bytes : Bytes page) where
     stays-there : (k : ℕ) → Ending page brace (moved (s .tokenizer) (choice page s)) → rests (moved (s .tokenizer) (choice page s) .state) ≡ true
         → Ending page brace (runScan page k (stepScan page s) .tokenizer)
     stays-there k e q =
-        let same = step-moved s g r in
-        let rested : rests (after .state) ≡ true = ap (λ (u : Tokenizer). rests (u .state)) same ∙ q in
+        let same = step-moved s g r u in
+        let rested : rests (after .state) ≡ true = ap (λ (x : Tokenizer). rests (x .state)) same ∙ q in
         rw (run-rest page (stepScan page s) k rested, same) e
 
     by-turn-alone : (k : ℕ)
@@ -176,24 +194,27 @@ module _ (page : List ℕ) (bytes : Bytes page) where
         → Turn page (s .tokenizer) (choice page s)
         → Ending page brace (runScan page k (stepScan page s) .tokenizer)
     by-turn-alone k read (stays o x) =
-        read (step-going s g r (x .held))
-        (rw (step-moved s g r) (record { within = x .alike ∙ a .within; from = x .brace (a .within) ∙ a .from; back = x .back (a .within) ∙ a .back }))
+        read (step-going s g r u (x .held))
+        (rw (step-moved s g r u) (record { within = x .alike ∙ a .within; from = x .brace (a .within) ∙ a .from; back = x .back (a .within) ∙ a .back }))
     by-turn-alone k read (begins q x) = clash (inside (s .tokenizer .state)) (a .within) (x .was)
     by-turn-alone k read (closes q x) =
         let done = x .state ∙ a .back in
         stays-there k (whole (s .tokenizer .at) (rw (a .from) at (x .closing)) done (x .place)) (rw done refl)
     by-turn-alone k read (ends q x) =
-        let p = parts (s .tokenizer) (g .roomy .within .sound .range) in
+        let p = parts (s .tokenizer) (g .silent .within .sound .range) in
         let eof = eqb-true (moved (s .tokenizer) (choice page s) .state) state.eof (both (eqb (moved (s .tokenizer) (choice page s) .state) state.eof) _ (x .now) .0) in
-        stays-there k (torn (rw (a .from) at (x .closing)) (x .now) (omega (arith, x .place, x .end, p .at, g .roomy .within .sound .size))) (rw eof refl)
+        stays-there k (torn (rw (a .from) at (x .closing)) (x .now) (omega (arith, x .place, x .end, p .at, g .silent .within .sound .size))) (rw eof refl)
 
-  pub ending : (brace k : ℕ) (s : Scan) → Going page s → Alone brace (s .tokenizer) → rests (runScan page k s .tokenizer .state) ≡ true
+  pub ending : (brace k : ℕ) (s : Scan) → Going page s → Alone brace (s .tokenizer) → Settled (runScan page k s)
       → Ending page brace (runScan page k s .tokenizer)
   unfolding runScan if_then_else_
-  ending brace zero s g a e = clash (inside (s .tokenizer .state)) (a .within) (resting s e)
+  ending brace zero s g a e = clash (inside (s .tokenizer .state)) (a .within) (resting s (e .rests))
   ending brace (suc k) s g a e =
       case _ (rests (s .tokenizer .state)) (λ r. clash (inside (s .tokenizer .state)) (a .within) (resting s r))
-      (λ r. rw r (by-turn-alone brace s g a r k (λ n x. ending brace k (stepScan page s) n x (rw r at e)) (turn s g r)))
+      (λ r.
+      let o : Settled (runScan page k (stepScan page s)) = rw r at e in
+      let u = room-first page k (stepScan page s) (o .unfilled) in
+      rw r (by-turn-alone brace s g a r u k (λ n x. ending brace k (stepScan page s) n x o) (turn s g r u)))
 
   -- the first step passes its `{`
   start-decides : (t : Tokenizer) → t .state ≡ state.mdxExpressionStart → eqb (byteAt page (t .at)) leftBrace ≡ true → decision page t (byteAt page (t .at)) ≡ eatWith state.mdxExpressionBefore (Three (Enter (tokenOf t)) (Enter kind.expressionMarker) (Leave kind.expressionMarker)) Open
@@ -216,12 +237,15 @@ module _ (page : List ℕ) (bytes : Bytes page) where
 
     opened : Begun page (s .tokenizer) (moved (s .tokenizer) (choice page s))
     unfolding choice
-    opened = rw (start-decides (s .tokenizer) e open-brace) (opens page (s .tokenizer) (g .held) (g .roomy .within .sound .size) outside open-brace)
+    opened = rw (start-decides (s .tokenizer) e open-brace) (opens page (s .tokenizer) (g .held) (g .silent .within .sound .size) outside open-brace)
 
-    alone : Alone (s .tokenizer .at) (stepScan page s .tokenizer)
-    alone = rw (step-moved s g runs) (record { within = opened .now; from = opened .brace; back = opened .back ∙ back })
+    alone : Unfilled (stepScan page s) → Alone (s .tokenizer .at) (stepScan page s .tokenizer)
+    alone u = rw (step-moved s g runs u) (record { within = opened .now; from = opened .brace; back = opened .back ∙ back })
 
-    pub expression-ends : (k : ℕ) → rests (runScan page k s .tokenizer .state) ≡ true → Ending page (s .tokenizer .at) (runScan page k s .tokenizer)
+    pub expression-ends : (k : ℕ) → Settled (runScan page k s) → Ending page (s .tokenizer .at) (runScan page k s .tokenizer)
     unfolding runScan if_then_else_
-    expression-ends zero x = clash (rests (s .tokenizer .state)) x runs
-    expression-ends (suc k) x = rw runs (ending (s .tokenizer .at) k (stepScan page s) (step-going s g runs (opened .held)) alone (rw runs at x))
+    expression-ends zero x = clash (rests (s .tokenizer .state)) (x .rests) runs
+    expression-ends (suc k) x =
+        let o : Settled (runScan page k (stepScan page s)) = rw runs at x in
+        let u = room-first page k (stepScan page s) (o .unfilled) in
+        rw runs (ending (s .tokenizer .at) k (stepScan page s) (step-going s g runs u (opened .held)) (alone u) o)

@@ -1,5 +1,6 @@
--- Three ways to make a scan without a verdict source. What holds of every run from its start that came to rest holds in one call with steps
--- enough, in any calls once the scan is not paused, and of the scan run by itself. Nothing here is of braces.
+-- Three ways to make a scan without a verdict source. What holds of every run from its start that came to rest, and not for want of room,
+-- holds in one call with room and steps enough, in any calls once the scan is neither paused nor full, and of the scan run by itself. Nothing
+-- here is of braces.
 use Prim.Native.Nat.{ℕ, _+_, _-_, _*_, _%_, _≤_, _<_}
 use native.Mathlib.Omega.{arith}
 use mathlib.Core.Path.{_≡_, refl, ap, _∙_, subst}
@@ -17,12 +18,13 @@ use Rattle.page.specs.Page.{pageOf, pageCheck}
 use Rattle.page.specs.declared.line.Line.{Line}
 use Rattle.page.specs.declared.Checked.the-variants.{Good}
 use Rattle.events.specs.declared.Event.{Event}
-use Rattle.events.specs.Words.{roomIn, eventsIn}
-use Rattle.room.specs.Room.{eventsEnough}
+use Rattle.events.specs.Words.{eventsIn}
 use Rattle.tokenizer.specs.declared.Job.{Job}
 use Rattle.tokenizer.specs.Ranges.{jobInRange}
 use Rattle.scan.specs.declared.Scan.{Scan}
-use Rattle.scan.specs.Answer.{Said, answerOf}
+use Rattle.base.specs.Table.{find}
+use Rattle.scan.specs.Answer.{Said, refusal, answerOf}
+use Rattle.scan_theorems.specs.Room.{NotFull}
 use Rattle.scan.specs.Scan.{runScan, runEvents}
 use Rattle.scan.specs.Call.{runnable, runOf, jobOf, freshIn, freshScan, numbersListed, started, beginOf, singleOf, wholeOf}
 use Rattle.scan.specs.Statement.{run, scanAfter, callEvents, eventsAfter}
@@ -35,19 +37,20 @@ use Rattle.scan_theorems.proofs.Calls.{page-long, job-in-range}
 use Rattle.scan_theorems.proofs.Unasked.{needsVerdict}
 use Rattle.scan_theorems.proofs.Fresh.{steps-fresh}
 use Rattle.scan_theorems.proofs.Scans.{within-fresh, run-ends}
+use Rattle.scan_theorems.proofs.Room.{Roomy, roomy-step, roomy-begun}
 use Rattle.scan_theorems.proofs.Counting.{Silent, silent-step, silent-fresh, fresh-runnable}
 use Rattle.brace_theorems.specs.Closing.{OfEverySingleScan, OfEveryCountingScan, OfEveryScanAlone, EveryWay}
+use Rattle.brace_theorems.proofs.Scans.{Unfilled, Settled}
 use Rattle.brace_theorems.proofs.Calls.{OneRun, Runs, one-run, not-paused}
 
--- of every run from its start that came to rest
+-- of every run from its start that came to rest, and not for want of room
 abbrev pub OfEveryRest : ℕ → (List ℕ → ℕ → Said → List Event → Type 0) → Type 0
 OfEveryRest construct P =
     (bytes : List ℕ) (at n start kind flags words : ℕ) (s : Scan)
     → eqb (flags % 2) 1 ≡ false
-    → eventsEnough (n - start) ≤ roomIn words
     → beginOf bytes at n start construct kind flags words ≡ started s
     → (k : ℕ)
-    → rests (runScan (pageOf bytes at n) k s .tokenizer .state) ≡ true
+    → Settled (runScan (pageOf bytes at n) k s)
     → P (pageOf bytes at n) start (answerOf (runScan (pageOf bytes at n) k s)) (runEvents (pageOf bytes at n) k s)
 
 -- ---- a new scan
@@ -81,14 +84,22 @@ module _ (bytes : List ℕ) (at n start construct kind flags words : ℕ) (s : S
 
 -- ---- any calls
 
+-- a scan that is full answers so
+full-said : (s : Scan) → s .tokenizer .state ≡ state.full → answerOf s .number ≡ state.full
+unfolding answerOf refusal find if_then_else_
+full-said s e = rw e refl
+
+not-filled : (s : Scan) → NotFull (answerOf s) → Unfilled s
+not-filled s h = case _ (eqb (s .tokenizer .state) state.full) (λ e. absurd (h (full-said s (eqb-true (s .tokenizer .state) state.full e)))) (λ e. e)
+
 calls-of : (construct : ℕ) (P : List ℕ → ℕ → Said → List Event → Type 0) → OfEveryRest construct P → OfEveryCountingScan construct P
 unfolding Runs
-calls-of construct P of bytes at n start kind flags lent s even room e calls over unpaused =
+calls-of construct P of bytes at n start kind flags lent s even e calls over unpaused unfilled =
     let page = pageOf bytes at n in
     let r : OneRun page s (scanAfter calls s lent) (eventsAfter calls s lent) = one-run page calls s lent over (silent bytes at n start construct kind flags (length lent) s e even) in
     rw (r .scan, r .events)
-    (of bytes at n start kind flags (length lent) s even room e (r .steps)
-    (subst (λ (x : Scan). rests (x .tokenizer .state) ≡ true) (r .scan) (not-paused (scanAfter calls s lent) unpaused)))
+    (of bytes at n start kind flags (length lent) s even e (r .steps)
+    (subst Settled (r .scan) (record { rests = not-paused (scanAfter calls s lent) unpaused; unfilled = not-filled (scanAfter calls s lent) unfilled })))
 
 -- ---- by itself
 
@@ -117,10 +128,10 @@ module _ (page : List ℕ) (k : ℕ) where
       rw (untold (runScan page k s) v q) (x .0, ap (λ (l : List Event). runEvents page k s ++ l) (x .1) ∙ append-nil (runEvents page k s))
 
 alone-of : (construct : ℕ) (P : List ℕ → ℕ → Said → List Event → Type 0) → OfEveryRest construct P → OfEveryScanAlone construct P
-alone-of construct P of bytes at n start kind flags words s even room e k vs enough =
+alone-of construct P of bytes at n start kind flags words s even e k vs enough unfilled =
     let r = comes-to-rest bytes at n start construct kind flags words s e k enough in
     let a = alone-run (pageOf bytes at n) k vs s (silent bytes at n start construct kind flags words s e even) r in
-    rw (a .0, a .1) (of bytes at n start kind flags words s even room e k r)
+    rw (a .0, a .1) (of bytes at n start kind flags words s even e k (record { rests = r; unfilled = not-filled _ (rw (a .0) at unfilled) }))
 
 -- ---- one call
 
@@ -166,7 +177,11 @@ single-of construct P of bytes at n start kind flags lent line listed even room 
       answer-is bytes at n start construct kind flags lent line listed good,
       events-are bytes at n start construct kind flags lent line listed good,
     )
-    (of bytes at n start kind flags (length lent) _ even room new k (comes-to-rest bytes at n start construct kind flags (length lent) _ new k (omega arith)))
+    (of bytes at n start kind flags (length lent) _ even new k
+    (record {
+      rests = comes-to-rest bytes at n start construct kind flags (length lent) _ new k (omega arith);
+      unfilled = run-keeps (pageOf bytes at n) (Roomy (pageOf bytes at n)) (roomy-step (pageOf bytes at n)) k _ (roomy-begun bytes at n start construct kind flags (length lent) _ room new) .goesOn;
+    }))
 
 pub every-way : (construct : ℕ) (P : List ℕ → ℕ → Said → List Event → Type 0) → OfEveryRest construct P → EveryWay construct P
 every-way construct P of = record { single = single-of construct P of; calls = calls-of construct P of; alone = alone-of construct P of }

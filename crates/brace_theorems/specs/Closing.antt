@@ -33,6 +33,7 @@ use Rattle.scan.specs.Statement.{Call, scanAfter, eventsAfter}
 use Rattle.scan.specs.Alone.{runAlone, eventsAlone}
 use Rattle.brace_theorems.specs.Braces.{ClosingOffset, NeverCloses}
 use Rattle.scan_theorems.specs.Lines.{OverPage}
+use Rattle.scan_theorems.specs.Room.{NotFull}
 use Rattle.scan_theorems.specs.Statement.{whereOf}
 
 -- ---- what a scan answers: its number, and values of it, of which the first is the end or the place
@@ -119,28 +120,29 @@ OfEverySingleScan construct P =
     → let left = wholeOf bytes at n start construct kind flags lent in
     P (pageOf bytes at n) start (left .answer) (eventsIn (left .words) 0 (left .scan .used))
 
--- Any calls: such a scan begins, runs are made over its page, with whatever allowance, verdicts are offered, and it is not paused then. After
--- 8(n+1) steps it is not (`a-scan-without-verdicts-ends`).
+-- Any calls, with any room: such a scan begins, runs are made over its page, with whatever allowance, verdicts are offered, and then it is
+-- neither paused nor full. After 8(n+1) steps it is not paused (`a-scan-without-verdicts-ends`), and with room for 6(n+1) events it is not full
+-- (`room-is-enough`).
 abbrev pub OfEveryCountingScan : ℕ → (List ℕ → ℕ → Said → List Event → Type 0) → Type 0
 OfEveryCountingScan construct P =
     (bytes : List ℕ) (at n start kind flags : ℕ) (lent : List ℕ) (s : Scan)
     → eqb (flags % 2) 1 ≡ false
-    → eventsEnough (n - start) ≤ roomIn (length lent)
     → beginOf bytes at n start construct kind flags (length lent) ≡ started s
     → (calls : List Call)
     → OverPage (pageOf bytes at n) calls
     → (answerOf (scanAfter calls s lent) .number ≡ number.paused → ⊥)
+    → NotFull (answerOf (scanAfter calls s lent))
     → P (pageOf bytes at n) start (answerOf (scanAfter calls s lent)) (eventsAfter calls s lent)
 
--- The scan run by itself, whatever it is told: what demand 3 compares a worker's page with.
+-- The scan run by itself, whatever it is told, if it is not full: what demand 3 compares a worker's page with.
 abbrev pub OfEveryScanAlone : ℕ → (List ℕ → ℕ → Said → List Event → Type 0) → Type 0
 OfEveryScanAlone construct P =
     (bytes : List ℕ) (at n start kind flags words : ℕ) (s : Scan)
     → eqb (flags % 2) 1 ≡ false
-    → eventsEnough (n - start) ≤ roomIn words
     → beginOf bytes at n start construct kind flags words ≡ started s
     → (k : ℕ) (vs : List Verdict)
     → 8 * (n - start + 1) ≤ k
+    → NotFull (answerOf (runAlone (pageOf bytes at n) k vs s))
     → P (pageOf bytes at n) start (answerOf (runAlone (pageOf bytes at n) k vs s)) (eventsAlone (pageOf bytes at n) k vs s)
 
 -- in one call, in any calls, and by itself

@@ -9,11 +9,11 @@ use lib.Dec.{leb, ltb, eqb}
 use borrow.Author.Tests.{eq-eqb, le-ltb}
 use Rattle.base.specs.If.{if_then_else_}
 use Rattle.base.proofs.Choice.{if-is, case}
-use Rattle.base.specs.Page.{pageLimit}
+use Rattle.base.specs.Page.{pageLimit, byteAt}
 use Rattle.base.specs.Number as number
 use Rattle.base.specs.State as state
 use Rattle.base.specs.State.{rests}
-use Rattle.base.specs.Decide.{countOf}
+use Rattle.base.specs.Decide.{listOf, countOf}
 use Rattle.base.specs.declared.Verdict.{Verdict}
 use Rattle.page.specs.Page.{pageOf}
 use Rattle.events.specs.Words.{width, roomIn}
@@ -23,7 +23,7 @@ use Rattle.tokenizer.specs.Ranges.{esm, jobInRange, verdictInRange}
 use Rattle.room.specs.Room.{eventsEnough, enoughOf}
 use Rattle.scan.specs.declared.Scan.{Scan}
 use Rattle.scan.specs.Answer.{Said, answerOf}
-use Rattle.scan.specs.Scan.{choice, lacks, stepScan, runScan, runEvents}
+use Rattle.scan.specs.Scan.{choice, marksAt, stepScan, runScan, runEvents}
 use Rattle.scan.specs.Call.{runnable, runOf, givenScan, jobOf, freshIn, freshScan, Begun, started, notStarted, beginOf, Left, ranFrom, singleOf}
 use Rattle.scan.specs.Alone.{toldScan, runAlone, eventsAlone}
 use Rattle.scan.proofs.Begun.{begins}
@@ -70,15 +70,14 @@ pub record Roomy (page : List ℕ) (s : Scan) : Type 0 where
   pub goesOn : eqb (s .tokenizer .state) state.full ≡ false
 
 -- what a step writes fits
-pub has-room : (page : List ℕ) (s : Scan) → rests (s .tokenizer .state) ≡ false → Roomy page s → lacks s (choice page s) ≡ false
-unfolding choice
-has-room page s r h =
-    let marks = choice page s .marks in
-    le-ltb (roomIn (s .tokenizer .job .words) - s .used) (countOf marks)
-    (omega (arith, price-events marks, falls events page (s .tokenizer) (h .within .sound) r, h .within .written, h .enough))
-
 fits : (page : List ℕ) (s : Scan) → rests (s .tokenizer .state) ≡ false → Roomy page s → tooManyEvents page s ≡ false
-fits page s r h = ap (ltb (roomIn (s .tokenizer .job .words) - s .used)) (count-is (choice page s .marks) _ _) ∙ has-room page s r h
+unfolding choice
+fits page s r h =
+    let marks = choice page s .marks in
+    let now = marksAt (byteAt page (s .tokenizer .at)) s (listOf marks) in
+    let count : length now ≡ countOf marks = count-is marks _ _ in
+    le-ltb (roomIn (s .tokenizer .job .words) - s .used) (length now)
+    (omega (arith, count, price-events marks, falls events page (s .tokenizer) (h .within .sound) r, h .within .written, h .enough))
 
 pub roomy-step : (page : List ℕ) (s : Scan) → rests (s .tokenizer .state) ≡ false → Roomy page s → Roomy page (stepScan page s)
 roomy-step page s r h =
