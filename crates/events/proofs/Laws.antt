@@ -1,5 +1,5 @@
 -- Laws of events in words: what is written is read again, what stands elsewhere stays, and two writings are one.
-use Prim.Native.Nat.{ℕ, suc, _+_, _*_, _/_, _%_, _≤_, _<_}
+use Prim.Native.Nat.{ℕ, zero, suc, _+_, _*_, _/_, _%_, _≤_, _<_}
 use native.Mathlib.Omega.{arith}
 use native.Mathlib.Nat.{add-zero}
 use mathlib.Core.Path.{_≡_, refl, sym, ap, ap₂, _∙_}
@@ -21,6 +21,7 @@ use Rattle.base.specs.Decide.{listOf, countOf}
 use Rattle.events.specs.declared.Point.{Point}
 use Rattle.events.specs.declared.Event.{Event}
 use Rattle.events.specs.Event.{point, event, pointOf, eventsAt}
+use Rattle.events.specs.Marks.{noMark, markIn}
 use Rattle.events.specs.Words.{width, kindWord, encode, written, markWord, inTab, eventIn, eventsIn}
 
 -- ---- counts
@@ -95,6 +96,71 @@ unfolding stored written
 one-written words k here past (Enter kind) = stored-is words (k * 4) (kindWord kind (here .tab) false) here
 one-written words k here past (Exit kind) = stored-is words (k * 4) (kindWord kind (here .tab) true) here
 one-written words k here past (Leave kind) = stored-is words (k * 4) (kindWord kind (past .tab) true) past
+
+-- ---- the marks of a step, written one by one
+
+-- past the last of some marks there is none
+pub past-the-last : (l : List Mark) (i : ℕ) → length l ≤ i → getD l i noMark ≡ noMark
+past-the-last [] zero h = refl
+past-the-last [] (suc i) h = refl
+past-the-last (a ∷ l) zero h = absurd (omega arith)
+past-the-last (a ∷ l) (suc i) h = past-the-last l i (omega arith)
+
+-- so one that is none may stand behind them
+pub one-longer : (l : List Mark) (i : ℕ) → getD (l ++ noMark ∷ []) i noMark ≡ getD l i noMark
+one-longer [] zero = refl
+one-longer [] (suc i) = refl
+one-longer (a ∷ l) zero = refl
+one-longer (a ∷ l) (suc i) = one-longer l i
+
+-- the first n of them
+pub firsts : Marks → ℕ → List Mark
+firsts m n = take n (markIn m 0 ∷ markIn m 1 ∷ markIn m 2 ∷ markIn m 3 ∷ [])
+
+all-firsts : (m : Marks) → firsts m (countOf m) ≡ listOf m
+unfolding firsts
+all-firsts Nothing = refl
+all-firsts (One a) = refl
+all-firsts (Two a b) = refl
+all-firsts (Three a b c) = refl
+all-firsts (Four a b c d) = refl
+
+pub at-most-four : (m : Marks) → countOf m ≤ 4
+at-most-four Nothing = omega arith
+at-most-four (One a) = omega arith
+at-most-four (Two a b) = omega arith
+at-most-four (Three a b c) = omega arith
+at-most-four (Four a b c d) = omega arith
+
+module _ (words : List ℕ) (k : ℕ) (here past : Point) (m : Marks) where
+  -- the words with the first n events
+  unfoldable pub upTo : ℕ → List ℕ
+  upTo n = written words k (eventsAt here past (firsts m n))
+
+  pub up-to-all : (n : ℕ) → n ≡ countOf m → upTo n ≡ written words k (eventsAt here past (listOf m))
+  unfolding upTo
+  up-to-all n e = rw (e, all-firsts m)
+
+  pub up-to-none : upTo 0 ≡ words
+  unfolding upTo firsts
+  up-to-none = written-none words k
+
+  module _ (before after : List ℕ) (a : Mark) where
+    pub up-to-one : before ≡ upTo 0 → after ≡ written before k (eventsAt here past (a ∷ [])) → a ≡ markIn m 0 → after ≡ upTo 1
+    unfolding upTo firsts
+    up-to-one b e d = rw (d, b ∙ written-none words k) at e
+
+    pub up-to-two : before ≡ upTo 1 → after ≡ written before (k + 1) (eventsAt here past (a ∷ [])) → a ≡ markIn m 1 → after ≡ upTo 2
+    unfolding upTo firsts
+    up-to-two b e d = rw (d, b) at e ∙ written-append words k (eventsAt here past (firsts m 1)) (eventsAt here past (markIn m 1 ∷ []))
+
+    pub up-to-three : before ≡ upTo 2 → after ≡ written before (k + 2) (eventsAt here past (a ∷ [])) → a ≡ markIn m 2 → after ≡ upTo 3
+    unfolding upTo firsts
+    up-to-three b e d = rw (d, b) at e ∙ written-append words k (eventsAt here past (firsts m 2)) (eventsAt here past (markIn m 2 ∷ []))
+
+    pub up-to-four : before ≡ upTo 3 → after ≡ written before (k + 3) (eventsAt here past (a ∷ [])) → a ≡ markIn m 3 → after ≡ upTo 4
+    unfolding upTo firsts
+    up-to-four b e d = rw (d, b) at e ∙ written-append words k (eventsAt here past (firsts m 3)) (eventsAt here past (markIn m 3 ∷ []))
 
 -- ---- reading what was written
 

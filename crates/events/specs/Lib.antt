@@ -3,3 +3,4 @@ pub mod Words
 pub mod Share
 pub mod Span
 pub mod Room
+pub mod Marks

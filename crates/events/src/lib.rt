@@ -9,6 +9,7 @@ ghost use lib.ListN.{length, getD};
 ghost use Rattle.base.specs.Decide.{countOf, listOf};
 ghost use Rattle.base.specs.Tab.{columnsOf};
 ghost use Rattle.events.specs.Event.{pointOf, eventsAt};
+ghost use Rattle.events.specs.Marks.{noMark, markIn};
 ghost use Rattle.events.specs.Words.{roomIn, markWord, written, inTab, eventIn};
 
 pub mod room;
@@ -165,50 +166,56 @@ fn put_one(words: &mut [u32], k: usize, here: Point, past: Point, mark: Mark)
     words[i + 3] = point.column;
 }
 
-// Two, three and four events, from event k on.
-fn put_two(words: &mut [u32], k: usize, here: Point, past: Point, a: Mark, b: Mark)
-    requires { ⌜ (k + 2) * 4 ≤ length (now words) ⌝ }
-    ensures { λ _. ⌜ now (words .exit) ≡ written (now (words .entry)) k (eventsAt here past (a ∷ b ∷ [])) ⌝ }
+// No mark: what is read past a step's last one.
+const NO_MARK: Mark = Mark::Enter(0);
+
+// One of four marks.
+fn one_of(i: usize, a: Mark, b: Mark, c: Mark, d: Mark) -> Mark
+    ensures { λ r. ⌜ r ≡ getD (a ∷ b ∷ c ∷ d ∷ []) i noMark ⌝ }
 {
-    put_one(words, k, here, past, a);
-    put_one(words, k + 1, here, past, b);
+    match i {
+        0 => a,
+        1 => b,
+        2 => c,
+        3 => d,
+        _ => NO_MARK,
+    }
 }
 
-fn put_three(words: &mut [u32], k: usize, here: Point, past: Point, a: Mark, b: Mark, c: Mark)
-    requires { ⌜ (k + 3) * 4 ≤ length (now words) ⌝ }
-    ensures { λ _. ⌜ now (words .exit) ≡ written (now (words .entry)) k (eventsAt here past (a ∷ b ∷ c ∷ [])) ⌝ }
+// Mark i of a step.
+fn mark_in(marks: Marks, i: usize) -> Mark
+    ensures { λ r. ⌜ r ≡ markIn marks i ⌝ }
 {
-    put_one(words, k, here, past, a);
-    put_two(words, k + 1, here, past, b, c);
+    match marks {
+        Marks::Nothing => NO_MARK,
+        Marks::One(a) => one_of(i, a, NO_MARK, NO_MARK, NO_MARK),
+        Marks::Two(a, b) => one_of(i, a, b, NO_MARK, NO_MARK),
+        Marks::Three(a, b, c) => one_of(i, a, b, c, NO_MARK),
+        Marks::Four(a, b, c, d) => one_of(i, a, b, c, d),
+    }
 }
 
-fn put_four(
-    words: &mut [u32],
-    k: usize,
-    here: Point,
-    past: Point,
-    a: Mark,
-    b: Mark,
-    c: Mark,
-    d: Mark,
-)
-    requires { ⌜ (k + 4) * 4 ≤ length (now words) ⌝ }
-    ensures { λ _. ⌜ now (words .exit) ≡ written (now (words .entry)) k (eventsAt here past (a ∷ b ∷ c ∷ d ∷ [])) ⌝ }
-{
-    put_one(words, k, here, past, a);
-    put_three(words, k + 1, here, past, b, c, d);
-}
-
-// The events of one step, from event k on: `here` is the step's place, `past` one byte past it.
+// The events of one step, from event k on: `here` is the step's place, `past` one byte past it. Each mark is written in a place of its own
+// in the code, so that four copies of `put_one` are enough, and the compiler folds them in.
 pub fn put(words: &mut [u32], k: usize, here: Point, past: Point, marks: Marks)
     requires { ⌜ (k + countOf marks) * 4 ≤ length (now words) ⌝ }
     ensures { λ _. ⌜ now (words .exit) ≡ written (now (words .entry)) k (eventsAt here past (listOf marks)) ⌝ }
 {
-    match marks {
-        Marks::Nothing => {}
-        Marks::One(a) => put_one(words, k, here, past, a),
-        Marks::Two(a, b) => put_two(words, k, here, past, a, b),
-        Marks::Three(a, b, c) => put_three(words, k, here, past, a, b, c),
-        Marks::Four(a, b, c, d) => put_four(words, k, here, past, a, b, c, d),
+    let n = count(marks);
+    if n < 1 {
+        return;
     }
+    put_one(words, k, here, past, mark_in(marks, 0));
+    if n < 2 {
+        return;
+    }
+    put_one(words, k + 1, here, past, mark_in(marks, 1));
+    if n < 3 {
+        return;
+    }
+    put_one(words, k + 2, here, past, mark_in(marks, 2));
+    if n < 4 {
+        return;
+    }
+    put_one(words, k + 3, here, past, mark_in(marks, 3));
 }

@@ -7,7 +7,7 @@ use mathlib.Core.Logic.{by-cases}
 use mathlib.Core.Bool.{Bool, true, false, not, true≢false}
 use mathlib.Core.List.{List}
 use lib.ListN.{length, getD}
-use lib.Dec.{ltb}
+use lib.Dec.{eqb, ltb}
 use borrow.Author.Tests.{lt-ltb, le-ltb, ltb-true, ltb-false, eq-eqb}
 use Rattle.base.specs.If.{if_then_else_}
 use Rattle.base.proofs.Choice.{if-yes, if-no, if-is}
@@ -82,20 +82,21 @@ module _ (n at left : ℕ) (h : at ≤ n) where
   furthest-onward : at < n → 0 < left → at < furthestPlace n at left
   furthest-onward l k = if-is ℕ (λ (k : ℕ). at < k) (ltb left (n - at)) (at + left) n (λ e. omega arith) (λ e. l)
 
+-- where there is a byte, the page has not ended
+pub before-end : (page : List ℕ) (at : ℕ) → eqb (byteAt page at) endOfPage ≡ false → at < length page
+unfolding byteAt
+before-end page at f =
+    by-cases (decLe (length page) at)
+    (λ (e : length page ≤ at).
+    let z : byteAt page at ≡ endOfPage = sym (if-no ℕ (ltb at (length page)) endOfPage (getD page at 0) endOfPage (le-ltb at (length page) e) refl) in
+    absurd (true≢false (sym (eq-eqb (byteAt page at) endOfPage z) ∙ f)))
+    (λ e. omega (arith, e))
+
 -- the first byte, which is one of the page, and the rest
 module _ (page : List ℕ) (name quote at left : ℕ) (within : at ≤ length page) (spare : 0 < left) (first : Glides name quote (byteAt page at) true) where
-  before-end : at < length page
-  unfolding byteAt
-  before-end =
-      by-cases (decLe (length page) at)
-      (λ (e : length page ≤ at).
-      let z : byteAt page at ≡ endOfPage = sym (if-no ℕ (ltb at (length page)) endOfPage (getD page at 0) endOfPage (le-ltb at (length page) e) refl) in
-      absurd (true≢false (sym (eq-eqb (byteAt page at) endOfPage z) ∙ first .onPage refl)))
-      (λ e. omega (arith, e))
-
   pub glided : (end : ℕ) → GlidesTo page name quote (at + 1) (furthestPlace (length page) at left) end → Glided page name quote at left (end - at)
   glided end rest =
-      let l = rest .within (omega (arith, furthest-onward (length page) at left within before-end spare)) in
+      let l = rest .within (omega (arith, furthest-onward (length page) at left within (before-end page at (first .onPage refl)) spare)) in
       record {
         some = omega (arith, rest .onward);
         enough = omega (arith, l, furthest-in-reach (length page) at left within);

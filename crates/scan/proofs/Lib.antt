@@ -1,6 +1,7 @@
 pub mod Begun
 pub mod Glided
 pub mod Kept
+pub mod Nested
 pub mod Pausing
 pub mod Ranged
 pub mod Runs

@@ -13,10 +13,15 @@ use Rattle.base.specs.If.{if_then_else_}
 use Rattle.base.proofs.Choice.{case}
 use Rattle.base.specs.Page.{byteAt}
 use Rattle.base.specs.State.{rests}
-use Rattle.base.specs.Decide.{eat}
+use Rattle.base.specs.Decide.{eat, eatWith}
+use Rattle.base.specs.declared.Effect.{Effect}
+use Rattle.base.specs.declared.Effect.the-variants.{Keep}
+use Rattle.base.specs.declared.InTab.{InTab}
 use Rattle.base.specs.declared.Marks.the-variants.{Nothing}
 use Rattle.base.specs.declared.Move.{Move}
+use Rattle.page.specs.declared.line.Line.{Line}
 use Rattle.scan.specs.declared.Scan.{Scan}
+use Rattle.scan.specs.Lines.{linesAfter, linesOf}
 use Rattle.tokenizer.specs.Decision.{decision}
 use Rattle.events.specs.Words.{written}
 use Rattle.events.proofs.Laws.{count-is, written-append, written-none}
@@ -74,17 +79,18 @@ run-keeps page P f (suc k) s p = case _ (rests (s .tokenizer .state)) (λ e. rw 
 -- ---- the short way is a step
 
 -- the byte that is eaten is no line feed and no tab, so that it is one column
-one-column : (page : List ℕ) (s : Scan) (b : ℕ) (m : Move) → b ≡ byteAt page (s .tokenizer .at) → s .tokenizer .at < s .tokenizer .job .length → eqb b lineFeed ≡ false → eqb b tab ≡ false → m ≡ eat (s .tokenizer .state) Nothing → passedLines (s .lines) 1 ≡ linesStep page s m
+pub one-column : (page : List ℕ) (s : Scan) (b : ℕ) (m : Move) (effect : Effect) → b ≡ byteAt page (s .tokenizer .at) → s .tokenizer .at < s .tokenizer .job .length → eqb b lineFeed ≡ false → eqb b tab ≡ false → m ≡ eatWith (s .tokenizer .state) Nothing effect
+    → ((next : Line) (t : InTab) → linesAfter page effect next t (s .lines) ≡ linesOf next t (s .lines .kept) (s .lines .fault)) → passedLines (s .lines) 1 ≡ linesStep page s m
 unfolding countedOn if_then_else_
-one-column page s b m e l f g d = rw (d, lt-ltb (s .tokenizer .at) (s .tokenizer .job .length) l, ← e, f, g)
+one-column page s b m effect e l f g d h = rw (d, h, lt-ltb (s .tokenizer .at) (s .tokenizer .job .length) l, ← e, f, g)
 
 pub glide : (page words : List ℕ) (s : Scan) (b : ℕ) (r : Bool) (m : Move) → b ≡ byteAt page (s .tokenizer .at) → Glides (s .tokenizer .state) (s .tokenizer .regs .quote) b r → r ≡ true
     → m ≡ eat (s .tokenizer .state) Nothing → s .tokenizer .at < s .tokenizer .job .length → (movedScan s m 0 (passedLines (s .lines) 1) ≡ stepScan page s) × (words ≡ written words (s .used) (stepEvents page s))
 unfolding choice
 glide page words s b r m e g y d l =
     let c : m ≡ choice page s = d ∙ sym (ap (decision page (s .tokenizer)) (sym e) ∙ g .stays page (s .tokenizer) refl refl y) in
-    let n = none page words s b e m c 0 (rw d) refl in
-    (ap (movedScan s m 0) (one-column page s b m e l (g .inLine y) (g .oneColumn y) d) ∙ n .0, n .1)
+    let n = none page words s b e m c (rw d) in
+    (ap (movedScan s m 0) (one-column page s b m Keep e l (g .inLine y) (g .oneColumn y) d (λ next t. refl)) ∙ n .0, n .1)
 
 -- ---- the loop
 

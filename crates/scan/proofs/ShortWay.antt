@@ -6,13 +6,14 @@ use mathlib.Core.Bool.{Bool, true, false, not}
 use mathlib.Core.List.{List}
 use lib.Dec.{eqb}
 use borrow.Author.Tests.{eqb-true, eqb-false, ne-eqb}
-use Rattle.base.specs.Byte.{tab, lineFeed, leftBrace, rightBrace, endOfPage}
+use Rattle.base.specs.Byte.{tab, lineFeed, space, leftBrace, rightBrace, endOfPage}
 use Rattle.base.specs.If.{if_then_else_, among}
 use Rattle.base.proofs.Choice.{case, both, and-no, and-no′, or-no, or-cases, or-left, or-right, not-yes}
 use Rattle.base.specs.Range.{within}
 use Rattle.base.proofs.Ranges.{within-is, below, above}
 use Rattle.base.specs.Table.{find}
-use Rattle.base.specs.Decide.{eat}
+use Rattle.base.specs.Decide.{eat, eatWith}
+use Rattle.base.specs.declared.Effect.the-variants.{Deeper, Shallower}
 use Rattle.base.specs.declared.Marks.the-variants.{Nothing}
 use Rattle.base.specs.declared.Move.{Move}
 use Rattle.char_class.specs.Class.{isWhitespace, isIdStart, isIdCont}
@@ -21,7 +22,7 @@ use Rattle.mdx_jsx_attribute.specs.Attribute.{quotedEnds}
 use Rattle.mdx_esm.specs.Esm.{lineEnds}
 use Rattle.tokenizer.specs.declared.Tokenizer.{Tokenizer}
 use Rattle.tokenizer.specs.Decision.{notAscii, takesAscii, refusesNotAscii, esmDecision, attributeDecision, tagDecision, expressionDecision, stateDecision, decision}
-use Rattle.scan.specs.Gliding.{plainData, plainLine, plainValue, insideAName}
+use Rattle.scan.specs.Gliding.{plainData, plainLine, plainValue, plainSpace, insideAName}
 
 -- the byte is eaten, and the state stays
 abbrev pub stay : ℕ → Move
@@ -114,6 +115,25 @@ module _ (page : List ℕ) (t : Tokenizer) (b : ℕ) where
   unfolding decision stateDecision esmDecision find if_then_else_ within
   lines h e = rw h (simp (and-no′ (notAscii b) (takesAscii 70) refl, not-yes (lineEnds b) (both (not (eqb b tab)) _ e .1)))
 
+  pub spaces : t .state ≡ 64 → plainSpace b ≡ true → decision page t b ≡ eat 64 Nothing
+  unfolding decision stateDecision tagDecision attributeDecision find if_then_else_ within isWhitespace
+  spaces h e = rw (h, eqb-true b space e)
+
+-- ---- braces inside an expression
+
+module _ (page : List ℕ) (t : Tokenizer) (inside : t .state ≡ 34) where
+  pub opens-unasked : t .job .asks ≡ true → decision page t leftBrace ≡ eat 34 Nothing
+  unfolding decision stateDecision expressionDecision find if_then_else_ within
+  opens-unasked a = rw (inside, a)
+
+  pub opens : t .job .asks ≡ false → decision page t leftBrace ≡ eatWith 34 Nothing Deeper
+  unfolding decision stateDecision expressionDecision find if_then_else_ within
+  opens a = rw (inside, a)
+
+  pub shuts : eqb (t .regs .depth) 0 ≡ false → decision page t rightBrace ≡ eatWith 34 Nothing Shallower
+  unfolding decision stateDecision expressionDecision find if_then_else_ within
+  shuts d = rw (inside, d)
+
 -- ---- no line feed is passed
 
 pub data-in-line : (b : ℕ) → plainData b ≡ true → eqb b lineFeed ≡ false
@@ -130,6 +150,9 @@ quoted-in-line b quote e = or-left (eqb b lineFeed) _ (or-right (eqb b quote) _ 
 pub name-in-line : (b : ℕ) → isIdCont b ≡ true → eqb b lineFeed ≡ false
 name-in-line b e = ne-eqb b lineFeed (λ q. let r = id-cont-range b e in omega (arith, q))
 
+pub space-in-line : (b : ℕ) → plainSpace b ≡ true → eqb b lineFeed ≡ false
+space-in-line b e = rw (eqb-true b space e)
+
 -- ---- nor a tab
 
 pub data-no-tab : (b : ℕ) → plainData b ≡ true → eqb b tab ≡ false
@@ -143,6 +166,9 @@ quoted-no-tab b quote e = not-yes (eqb b tab) (both (not (eqb b tab)) _ e .0)
 
 pub name-no-tab : (b : ℕ) → isIdCont b ≡ true → eqb b tab ≡ false
 name-no-tab b e = ne-eqb b tab (λ q. let r = id-cont-range b e in omega (arith, q))
+
+pub space-no-tab : (b : ℕ) → plainSpace b ≡ true → eqb b tab ≡ false
+space-no-tab b e = rw (eqb-true b space e)
 
 -- ---- nor the page's end
 
@@ -160,3 +186,6 @@ quoted-on-page b quote e = or-right (eqb b lineFeed) _ (or-right (eqb b quote) _
 
 pub name-on-page : (b : ℕ) → isIdCont b ≡ true → eqb b endOfPage ≡ false
 name-on-page b e = ne-eqb b endOfPage (λ q. let r = id-cont-range b e in omega (arith, q))
+
+pub space-on-page : (b : ℕ) → plainSpace b ≡ true → eqb b endOfPage ≡ false
+space-on-page b e = rw (eqb-true b space e)

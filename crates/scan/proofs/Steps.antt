@@ -1,14 +1,14 @@
--- How the code's three ways of a step are the definition's one: no events, no room, events that fit. And what a step keeps.
+-- How the code's step is the definition's, with events and without; and what a step keeps.
 use Prim.Native.Nat.{ℕ, _+_, _-_, _≤_, _<_, _^_}
 use native.Mathlib.Omega.{arith}
-use mathlib.Core.Path.{_≡_, refl, sym, _∙_}
+use mathlib.Core.Path.{_≡_, refl, sym, ap, _∙_}
 use mathlib.Core.Bool.{Bool, true, false}
 use mathlib.Core.List.{List, []}
 use lib.ListN.{length}
 use lib.Dec.{ltb, eqb}
 use borrow.Author.Tests.{ltb-true, ltb-false, le-ltb}
 use Rattle.base.specs.If.{if_then_else_}
-use Rattle.base.proofs.Choice.{if-yes, if-no, if-is}
+use Rattle.base.proofs.Choice.{if-no, if-is}
 use Rattle.base.specs.Byte.{tab, lineFeed}
 use Rattle.base.specs.Page.{pageLimit, byteAt}
 use Rattle.base.specs.State.{full}
@@ -34,43 +34,34 @@ use Rattle.scan.specs.Inner.{Low, Small, Fit, Counts}
 
 -- ---- events
 
-no-marks : (m : Marks) → countOf m ≡ 0 → listOf m ≡ []
+pub no-marks : (m : Marks) → countOf m ≡ 0 → listOf m ≡ []
 no-marks Nothing e = refl
 no-marks (One a) e = absurd (omega (arith, e))
 no-marks (Two a b) e = absurd (omega (arith, e))
 no-marks (Three a b c) e = absurd (omega (arith, e))
 no-marks (Four a b c d) e = absurd (omega (arith, e))
 
-pub few-marks : (m : Marks) → countOf m ≤ 4
-few-marks Nothing = omega arith
-few-marks (One a) = omega arith
-few-marks (Two a b) = omega arith
-few-marks (Three a b c) = omega arith
-few-marks (Four a b c d) = omega arith
+-- ---- a step
 
--- ---- the three ways of a step
+-- what is carried out finds room for its events
+pub carried-fits : (s : Scan) (m : Move) → s .used ≤ roomIn (s .tokenizer .job .words) → s .used + countOf (carriedOut s m .marks) ≤ roomIn (s .tokenizer .job .words)
+carried-fits s m h =
+    if-is Move (λ (r : Move). s .used + countOf (r .marks) ≤ roomIn (s .tokenizer .job .words)) (lacks s m) (retry full Nothing) m
+    (λ e. omega arith)
+    (λ e. omega (arith, ltb-false (roomIn (s .tokenizer .job .words) - s .used) (countOf (m .marks)) e))
 
-module _ (page words : List ℕ) (s : Scan) (b : ℕ) (byte : b ≡ byteAt page (s .tokenizer .at)) (m : Move) (e : m ≡ choice page s) (n : ℕ) (counts : n ≡ countOf (m .marks)) where
-  abbrev Stepped : Scan → List ℕ → Type 0
-  Stepped s′ words′ = (s′ ≡ stepScan page s) × (words′ ≡ written words (s .used) (stepEvents page s))
-
-  pub fits : lacks s m ≡ false → Stepped (movedScan s m n (linesStep page s m)) (written words (s .used) (marksAt b s (listOf (m .marks))))
+module _ (page words : List ℕ) (s : Scan) (b : ℕ) (byte : b ≡ byteAt page (s .tokenizer .at)) (m : Move) where
+  -- the decision is carried out
+  pub stepped : m ≡ carriedOut s (choice page s) → (movedScan s m (countOf (m .marks)) (linesStep page s m) ≡ stepScan page s) × (written words (s .used) (marksAt b s (listOf (m .marks))) ≡ written words (s .used) (stepEvents page s))
   unfolding stepScan stepEvents
-  fits f =
-      let d : carriedOut s m ≡ m = sym (if-no _ _ m (retry full Nothing) m f refl) in
-      (rw (← e, d, counts), rw (← e, d, byte))
+  stepped e = (rw (← e), rw (← e, byte))
 
-  pub none : n ≡ 0 → Stepped (movedScan s m n (linesStep page s m)) words
-  none z =
-      let k : countOf (m .marks) ≡ 0 = sym counts ∙ z in
-      let f = fits (le-ltb _ (countOf (m .marks)) (omega (arith, k))) in
-      (f .0, sym (rw (no-marks (m .marks) k) (written-none words (s .used))) ∙ f .1)
-
-  pub lacking : lacks s m ≡ true → Stepped (movedScan s (retry full Nothing) 0 (s .lines)) words
-  unfolding stepScan stepEvents if_then_else_
-  lacking f =
-      let d : carriedOut s m ≡ retry full Nothing = sym (if-yes _ _ (retry full Nothing) (retry full Nothing) m f refl) in
-      (rw (← e, d), sym (rw (← e, d) (written-none words (s .used))))
+  -- one with no events always is, and no word changes
+  pub none : m ≡ choice page s → countOf (m .marks) ≡ 0 → (movedScan s m 0 (linesStep page s m) ≡ stepScan page s) × (words ≡ written words (s .used) (stepEvents page s))
+  none e z =
+      let carried : carriedOut s m ≡ m = sym (if-no _ _ m (retry full Nothing) m (le-ltb _ (countOf (m .marks)) (omega (arith, z))) refl) in
+      let f = stepped (sym carried ∙ ap (carriedOut s) e) in
+      (rw z at (f .0), sym (rw (no-marks (m .marks) z) (written-none words (s .used))) ∙ f .1)
 
 -- ---- what a step asks
 
@@ -193,7 +184,5 @@ pub fit-step : (page : List ℕ) (s : Scan) (w : ℕ) → Fit s (length page) w 
 unfolding stepScan
 fit-step page s w f =
     fit-moved s (length page) w (carriedOut s (choice page s)) (countOf (carriedOut s (choice page s) .marks)) (linesStep page s (carriedOut s (choice page s))) f
-    (if-is Move (λ (m : Move). s .used + countOf (m .marks) ≤ roomIn w) (lacks s (choice page s)) (retry full Nothing) (choice page s)
-    (λ e. omega (arith, f .used))
-    (λ e. omega (arith, f .used, f .words, ltb-false (roomIn (s .tokenizer .job .words) - s .used) (countOf (choice page s .marks)) e)))
+    (let used : s .used ≤ roomIn (s .tokenizer .job .words) = omega (arith, f .used, f .words) in omega (arith, carried-fits s (choice page s) used, f .words))
     (step-small page s (carriedOut s (choice page s)) (f .short) (f .lines))

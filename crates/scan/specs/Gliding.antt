@@ -1,15 +1,15 @@
 -- What the short way asks and gives. No promise to a user of the library cites these.
 use Prim.Native.Nat.{ℕ, zero, suc, _+_, _-_, _≤_, _<_}
 use mathlib.Core.Path.{_≡_}
-use mathlib.Core.Bool.{Bool, true, false, not, _&&_}
+use mathlib.Core.Bool.{Bool, true, false, not, _&&_, _||_}
 use mathlib.Core.List.{List, [], _∷_}
 use lib.Dec.{eqb, ltb}
 use lib.ListN.{length}
-use Rattle.base.specs.Byte.{tab, lineFeed, leftBrace, rightBrace, endOfPage}
+use Rattle.base.specs.Byte.{tab, lineFeed, space, leftBrace, rightBrace, endOfPage}
 use Rattle.base.specs.If.{if_then_else_, among}
 use Rattle.base.specs.Page.{byteAt}
 use Rattle.base.specs.Range.{within}
-use Rattle.base.specs.State.{mdxJsxPrimaryName, mdxJsxAttributeLocalName}
+use Rattle.base.specs.State.{mdxExpressionInside, mdxJsxAttributeValueQuoted, mdxJsxEsWhitespaceInside, mdxJsxPrimaryName, mdxJsxAttributeLocalName, mdxEsmInside}
 use Rattle.base.specs.Decide.{eat}
 use Rattle.base.specs.declared.InTab.the-variants.{Outside}
 use Rattle.base.specs.declared.Marks.the-variants.{Nothing}
@@ -17,7 +17,8 @@ use Rattle.mdx_esm.specs.Esm.{lineEnds}
 use Rattle.mdx_jsx_attribute.specs.Attribute.{quotedEnds}
 use Rattle.tokenizer.specs.declared.Tokenizer.{Tokenizer}
 use Rattle.tokenizer.specs.Decision.{decision}
-use Rattle.tokenizer.specs.Moved.{oneMore}
+use Rattle.tokenizer.specs.Registers.{withDepth}
+use Rattle.tokenizer.specs.Moved.{mostBraces, oneMore}
 use Rattle.scan.specs.declared.lines.Lines.{Lines}
 use Rattle.scan.specs.declared.Scan.{Scan}
 use Rattle.scan.specs.Lines.{highestColumn, linesOf}
@@ -34,9 +35,17 @@ plainLine b = not (eqb b tab) && not (lineEnds b)
 abbrev pub plainValue : ℕ → ℕ → Bool
 plainValue b quote = not (eqb b tab) && not (quotedEnds b quote)
 
+-- white space inside a tag that is one column, and no line's end
+abbrev pub plainSpace : ℕ → Bool
+plainSpace b = eqb b space
+
 -- one of the five states inside a name
 abbrev pub insideAName : ℕ → Bool
 insideAName name = within mdxJsxPrimaryName mdxJsxAttributeLocalName name
+
+-- a state that passes some bytes by a short way
+abbrev pub mayGlide : ℕ → Bool
+mayGlide name = insideAName name || among (mdxExpressionInside ∷ mdxJsxAttributeValueQuoted ∷ mdxJsxEsWhitespaceInside ∷ mdxEsmInside ∷ []) name
 
 -- where the test r holds of a state's number, a quote and a byte, the byte is one of the page, and the state eats it and stays, with no
 -- event, in the same line and one column further
@@ -81,4 +90,23 @@ passedScan s k =
       lines = passedLines (s .lines) k;
       used = s .used;
       steps = countedOn (s .steps) (stepBound (t .job)) k;
+    }
+
+-- a brace inside an expression that its state passes: one that opens, or one that closes what was opened there
+abbrev pub nests : ℕ → ℕ → ℕ → Bool
+nests name depth b = eqb name mdxExpressionInside && (eqb b leftBrace || eqb b rightBrace && not (eqb depth 0))
+
+-- how many are open past it
+abbrev pub depthPast : ℕ → Bool → ℕ → ℕ
+depthPast depth asks b = if eqb b leftBrace then (if asks then depth else oneMore depth mostBraces) else depth - 1
+
+-- a scan after the step over it
+abbrev pub nestedScan : Scan → ℕ → Scan
+nestedScan s b =
+    let t = s .tokenizer in
+    record {
+      tokenizer = record { job = t .job; state = t .state; at = t .at + 1; regs = withDepth (depthPast (t .regs .depth) (t .job .asks) b) (t .regs); heard = t .heard };
+      lines = passedLines (s .lines) 1;
+      used = s .used;
+      steps = countedOn (s .steps) (stepBound (t .job)) 1;
     }

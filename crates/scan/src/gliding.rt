@@ -3,12 +3,14 @@
 use base::byte;
 use base::state;
 use base::wide;
+use tokenizer::moving::one_deeper;
+use tokenizer::moving::one_shallower;
 ghost use mathlib.Core.Path.{_≡_};
 ghost use mathlib.Core.Bool.{true};
 ghost use Prim.Native.Nat.{_≤_, _<_};
 ghost use lib.ListN.{length};
 ghost use Rattle.base.specs.Page.{pageLimit, byteAt};
-ghost use Rattle.scan.specs.Gliding.{plainData, plainLine, plainValue, insideAName, Glides, GlidesTo, Glided, furthestPlace};
+ghost use Rattle.scan.specs.Gliding.{plainData, plainLine, plainValue, plainSpace, insideAName, mayGlide, Glides, GlidesTo, Glided, furthestPlace, nests, depthPast};
 
 // Data that neither ends nor nests an expression, and is one column.
 fn plain_data(b: u16) -> bool
@@ -43,12 +45,35 @@ fn plain_value(b: u16, quote: u16) -> bool
     !mdx_jsx_attribute::quoted_ends(b, quote)
 }
 
+// White space inside a tag that is one column, and no line's end.
+fn plain_space(b: u16) -> bool
+    ensures { λ r. ⌜ r ≡ plainSpace b ⌝ }
+{
+    b == byte::SPACE
+}
+
 // One of the five states inside a name.
 fn inside_a_name(name: u8) -> bool
     ensures { λ r. ⌜ r ≡ insideAName name ⌝ }
 {
     match name {
         state::MDX_JSX_PRIMARY_NAME..=state::MDX_JSX_ATTRIBUTE_LOCAL_NAME => true,
+        _ => false,
+    }
+}
+
+// Whether the state passes any byte by a short way: one test, so that the others cost a step next to nothing.
+pub(crate) fn may_glide(name: u8) -> bool
+    ensures { λ r. ⌜ r ≡ mayGlide name ⌝ }
+{
+    if inside_a_name(name) {
+        return true;
+    }
+    match name {
+        state::MDX_EXPRESSION_INSIDE
+        | state::MDX_JSX_ATTRIBUTE_VALUE_QUOTED
+        | state::MDX_JSX_ES_WHITESPACE_INSIDE
+        | state::MDX_ESM_INSIDE => true,
         _ => false,
     }
 }
@@ -66,9 +91,41 @@ pub(crate) fn glides(name: u8, quote: u16, b: u16) -> bool
         plain_value(b, quote)
     } else if inside_a_name(name) {
         char_class::id_cont(b)
+    } else if name == state::MDX_JSX_ES_WHITESPACE_INSIDE {
+        plain_space(b)
     } else {
         false
     }
+}
+
+// Whether the state passes the byte as a brace inside an expression: one that opens, or one that closes what was opened there. Nothing
+// changes but place and depth.
+pub(crate) fn nests(name: u8, depth: u32, b: u16) -> bool
+    ensures { λ r. ⌜ r ≡ nests name depth b ⌝ }
+{
+    if name != state::MDX_EXPRESSION_INSIDE {
+        return false;
+    }
+    if b == byte::LEFT_BRACE {
+        return true;
+    }
+    if b == byte::RIGHT_BRACE {
+        return depth != 0;
+    }
+    false
+}
+
+// How many braces are open past it. With a verdict source, `{` is not counted.
+pub(crate) fn depth_past(depth: u32, asks: bool, b: u16) -> u32
+    ensures { λ r. ⌜ r ≡ depthPast depth asks b ⌝ }
+{
+    if b != byte::LEFT_BRACE {
+        return one_shallower(depth);
+    }
+    if asks {
+        return depth;
+    }
+    one_deeper(depth)
 }
 
 // How far the state passes bytes so: from a place on, up to a limit.

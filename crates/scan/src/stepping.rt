@@ -1,7 +1,10 @@
 // Steps: the decision of the state that a scan is in, its events, and the count; and the loop that makes them.
 use crate::Scan;
+use crate::gliding::depth_past;
 use crate::gliding::glide;
 use crate::gliding::glides;
+use crate::gliding::may_glide;
+use crate::gliding::nests;
 use crate::lines::HIGHEST_COLUMN;
 use crate::lines::Lines;
 use crate::lines::line_next;
@@ -22,10 +25,10 @@ ghost use Prim.Native.Nat.{_+_, _-_, _*_, _≤_, _<_, _^_};
 ghost use lib.ListN.{length};
 ghost use Rattle.base.specs.Page.{pageLimit, byteAt};
 ghost use Rattle.base.specs.Decide.{listOf, countOf};
-ghost use Rattle.events.specs.Words.{written};
-ghost use Rattle.scan.specs.Scan.{movedScan, passes, linesStep, marksAt, stepScan, stepEvents, runScan, runWords};
+ghost use Rattle.events.specs.Words.{roomIn, written};
+ghost use Rattle.scan.specs.Scan.{carriedOut, movedScan, passes, linesStep, marksAt, stepScan, stepEvents, runScan, runWords};
 ghost use Rattle.scan.specs.Inner.{Low, Fit, Counts, Stepping};
-ghost use Rattle.scan.specs.Gliding.{countedOn, passedLines, passedScan};
+ghost use Rattle.scan.specs.Gliding.{countedOn, passedLines, passedScan, nestedScan};
 
 // What a run over the bytes from the start to the page's end takes at the most.
 pub(crate) fn step_bound(length: usize, start: usize) -> usize
@@ -105,6 +108,33 @@ impl Scan {
         }
     }
 
+    // The scan after a step over a brace inside an expression.
+    fn nested(self, b: u16) -> Self
+        requires { ⌜ Counts self 0 × (self .tokenizer .at + 1 < 2 ^ 64) ⌝ }
+        ensures { λ r. ⌜ r ≡ nestedScan self b ⌝ }
+    {
+        let tokenizer = self.tokenizer;
+        let lines = passed_lines(self.lines, 1);
+        let job = tokenizer.job;
+        let mut regs = tokenizer.regs;
+        regs.depth = depth_past(regs.depth, job.asks, b);
+        let heard = tokenizer.heard;
+        let steps = count_steps(self.steps, step_bound(job.length, job.start), 1);
+        let tokenizer = Tokenizer {
+            job,
+            state: tokenizer.state,
+            at: tokenizer.at + 1,
+            regs,
+            heard,
+        };
+        Scan {
+            tokenizer,
+            lines,
+            used: self.used,
+            steps,
+        }
+    }
+
     // Whether a decision eats a byte, and there is one.
     fn passes(self, m: Move) -> bool
         ensures { λ r. ⌜ r ≡ passes self m ⌝ }
@@ -132,11 +162,14 @@ impl Scan {
         )
     }
 
-    // The events of a step at the byte b are written.
+    // The events of a step at the byte b are written. Where there are none, it is not worked out where they would stand.
     fn put_events(self, words: &mut [u32], marks: Marks, b: u16)
         requires { ⌜ Low (self .lines .line) × (self .tokenizer .at ≤ pageLimit) × ((self .used + countOf marks) * 4 ≤ length (now words)) ⌝ }
         ensures { λ _. ⌜ now (words .exit) ≡ written (now (words .entry)) (self .used) (marksAt b self (listOf marks)) ⌝ }
     {
+        if events::count(marks) == 0 {
+            return;
+        }
         let lines = self.lines;
         let line = lines.line;
         let tab = lines.tab;
@@ -146,25 +179,31 @@ impl Scan {
         events::put(words, self.used, here, past, marks);
     }
 
-    // One step of the state that the scan is in, whose byte is b.
+    // What is carried out: the decision, or the end of the scan for want of room.
+    fn carried_out(self, m: Move) -> Move
+        requires { ⌜ self .used ≤ roomIn (self .tokenizer .job .words) ⌝ }
+        ensures { λ r. ⌜ r ≡ carriedOut self m ⌝ }
+    {
+        let marks = m.marks;
+        let left = events::room_in(self.tokenizer.job.words) - self.used;
+        if left < events::count(marks) {
+            return retry(state::FULL, Marks::Nothing);
+        }
+        m
+    }
+
+    // One step of the state that the scan is in, whose byte is b. Every function that is handed the scan or the decision here has this one
+    // caller: so the compiler folds all of a step into the loop, and neither is copied from call to call.
     fn one_step(self, page: &[u8], words: &mut [u32], b: u16) -> Self
         requires { ⌜ Stepping self (now page) (now words) b ⌝ }
         ensures state { λ r. ⌜ r ≡ stepScan (now (page .entry)) self ⌝ }
         ensures written { λ _. ⌜ now (words .exit) ≡ written (now (words .entry)) (self .used) (stepEvents (now (page .entry)) self) ⌝ }
     {
         let tokenizer = self.tokenizer;
-        let used = self.used;
-        let m = tokenizer.call(page, b);
+        let m = self.carried_out(tokenizer.call(page, b));
         let marks = m.marks;
-        let n = events::count(marks);
-        if n == 0 {
-            return self.moved(m, n, self.lines_after(page, m, b));
-        }
-        if events::room_in(words.len()) - used < n {
-            return self.moved(retry(state::FULL, Marks::Nothing), 0, self.lines);
-        }
         self.put_events(words, marks, b);
-        self.moved(m, n, self.lines_after(page, m, b))
+        self.moved(m, events::count(marks), self.lines_after(page, m, b))
     }
 
     // Steps until the scan asks or has ended, or the allowance is spent.
@@ -183,11 +222,18 @@ impl Scan {
             let at = s.tokenizer.at;
             let quote = s.tokenizer.regs.quote;
             let b = byte_at(page, at);
-            if glides(name, quote, b) {
-                let k = glide(page, name, quote, at, left);
-                s = s.passed(k);
-                left = left - k;
-                continue;
+            if may_glide(name) {
+                if glides(name, quote, b) {
+                    let k = glide(page, name, quote, at, left);
+                    s = s.passed(k);
+                    left = left - k;
+                    continue;
+                }
+                if nests(name, s.tokenizer.regs.depth, b) {
+                    s = s.nested(b);
+                    left = left - 1;
+                    continue;
+                }
             }
             s = s.one_step(page, words, b);
             left = left - 1;

@@ -12,20 +12,33 @@ use base::retry;
 use base::state;
 ghost use mathlib.Core.Path.{_≡_};
 ghost use Prim.Native.Nat.{_<_, _^_};
+ghost use Rattle.mdx_jsx.specs.Jsx as jsx;
 ghost use Rattle.tokenizer.specs.Decision as decision;
 
-// The kind of a tag's own events.
-fn tag_token(text: u8) -> u8
-    ensures { λ r. ⌜ r ≡ decision.tagToken text ⌝ }
+// The start of a tag, and its end, with the kind of the tag's own events. Each way names its kind, so that all marks of a tag's decisions
+// are constants: a kind that is worked out and put into marks cost every step of a tag.
+fn tag_start(b: u16, text: u8) -> Move
+    ensures { λ r. ⌜ r ≡ jsx.start b (decision.tagToken text) ⌝ }
 {
     if text == TEXT {
-        kind::JSX_TEXT_TAG
+        mdx_jsx::start(b, kind::JSX_TEXT_TAG)
     } else {
-        kind::JSX_FLOW_TAG
+        mdx_jsx::start(b, kind::JSX_FLOW_TAG)
     }
 }
 
-// The kind of an expression's own events: in a tag, by what the expression stands for there.
+fn tag_end(b: u16, text: u8) -> Move
+    ensures { λ r. ⌜ r ≡ jsx.tagEnd b (decision.tagToken text) ⌝ }
+{
+    if text == TEXT {
+        mdx_jsx::tag_end(b, kind::JSX_TEXT_TAG)
+    } else {
+        mdx_jsx::tag_end(b, kind::JSX_FLOW_TAG)
+    }
+}
+
+// The kind of an expression's own events: in a tag, by what the expression stands for there. Only the states that write such an event
+// work it out: every step would pay for it otherwise.
 fn expression_token(text: u8, back: u8) -> u8
     ensures { λ r. ⌜ r ≡ decision.expressionToken text back ⌝ }
 {
@@ -179,13 +192,13 @@ impl Tokenizer {
     {
         let name = self.state;
         let back = self.regs.back;
-        let token = tag_token(self.job.kind);
+        let kind = self.job.kind;
         match name {
-            state::MDX_JSX_START => mdx_jsx::start(b, token),
+            state::MDX_JSX_START => tag_start(b, kind),
             state::MDX_JSX_START_AFTER => mdx_jsx::start_after(b),
             state::MDX_JSX_NAME_BEFORE => mdx_jsx_name::name_before(b),
             state::MDX_JSX_CLOSING_TAG_NAME_BEFORE => mdx_jsx_name::closing_tag_name_before(b),
-            state::MDX_JSX_TAG_END => mdx_jsx::tag_end(b, token),
+            state::MDX_JSX_TAG_END => tag_end(b, kind),
             state::MDX_JSX_PRIMARY_NAME => mdx_jsx_name::primary_name(b),
             state::MDX_JSX_PRIMARY_NAME_AFTER => mdx_jsx_name::primary_name_after(b),
             state::MDX_JSX_MEMBER_NAME_BEFORE => mdx_jsx_name::member_name_before(b),
@@ -217,15 +230,15 @@ impl Tokenizer {
         let heard = self.heard;
         let regs = self.regs;
         let back = regs.back;
-        let token = expression_token(self.job.kind, back);
+        let kind = self.job.kind;
         match name {
-            state::MDX_EXPRESSION_START => mdx_expression::start(b, token),
+            state::MDX_EXPRESSION_START => mdx_expression::start(b, expression_token(kind, back)),
             state::MDX_EXPRESSION_BEFORE => mdx_expression::before(
                 b,
                 regs.depth,
                 asks,
                 regs.last,
-                token,
+                expression_token(kind, back),
                 back,
             ),
             state::MDX_EXPRESSION_INSIDE => mdx_expression::inside(b, regs.depth, asks),
@@ -234,7 +247,7 @@ impl Tokenizer {
             state::MDX_EXPRESSION_VERDICT => mdx_expression::verdict(
                 heard,
                 expression_fault(page, heard, regs.body, self.at),
-                token,
+                expression_token(kind, back),
                 back,
             ),
             _ => no_state(),

@@ -24,7 +24,7 @@ pub struct Job {
 }
 
 // What the states remember between steps. The fields go from wide to narrow, so that none has a gap behind it: a gap is copied through
-// the stack with every step.
+// the stack with every step. Only the quote comes after the bytes: that was counted, and is the quickest order.
 pub struct Regs {
     // The place that a look-ahead goes back to.
     pub saved: usize,
@@ -37,8 +37,6 @@ pub struct Regs {
     pub depth: u32,
     // The number of the last unfinished verdict, or of the verdict that ended the scan; 0 for none.
     pub last: u32,
-    // The quote that the value ends with.
-    pub quote: u16,
     // The state that white space or an expression returns to; DONE for an expression that stands alone.
     pub back: u8,
     // How many columns of the line prefix are passed.
@@ -46,6 +44,8 @@ pub struct Regs {
     // Where a refusal stands, and its note.
     pub site: u8,
     pub note: u8,
+    // The quote that the value ends with.
+    pub quote: u16,
 }
 
 // The Rust's tokenizer, by value and without its events: the state that runs next, its place, and what the states remember.

@@ -14,7 +14,7 @@ pub const MOST_BRACES: u32 = 1_048_576;
 pub const LONGEST_PREFIX: u8 = 2;
 
 // One more brace than `depth`.
-fn one_deeper(depth: u32) -> u32
+pub fn one_deeper(depth: u32) -> u32
     ensures { λ r. ⌜ r ≡ oneMore depth mostBraces ⌝ }
 {
     if depth < MOST_BRACES {
@@ -25,7 +25,7 @@ fn one_deeper(depth: u32) -> u32
 }
 
 // One brace less, and none less than none.
-fn one_shallower(depth: u32) -> u32
+pub fn one_shallower(depth: u32) -> u32
     ensures { λ r. ⌜ r ≡ depth - 1 ⌝ }
 {
     if 0 < depth { depth - 1 } else { 0 }

@@ -1,7 +1,7 @@
 use mathlib.Core.Path.{sym, ap, _∙_}
 use mathlib.Core.Bool.{true, false, true≢false}
 use borrow.Author.Needs.{needs}
-use Rattle.scan.proofs.ShortWay.{stay, data-plain, lines, quoted, names, data-in-line, line-in-line, quoted-in-line, name-in-line, data-no-tab, line-no-tab, quoted-no-tab, name-no-tab, data-on-page, line-on-page, quoted-on-page, name-on-page}
+use Rattle.scan.proofs.ShortWay.{stay, data-plain, lines, quoted, names, spaces, data-in-line, line-in-line, quoted-in-line, name-in-line, space-in-line, data-no-tab, line-no-tab, quoted-no-tab, name-no-tab, space-no-tab, data-on-page, line-on-page, quoted-on-page, name-on-page, space-on-page}
 use Rattle.scan.proofs.gliding.glides.Statement.{statement}
 use Rattle.scan.proofs.gliding.glides.Tie as tie
 
@@ -9,6 +9,7 @@ pub glides-spec : {M : Type 1} → statement M
 glides-spec =
     tie.close
     (tie.spec
+    (λ c κs. search needs)
     (λ c κs. search needs)
     (λ c κs. search needs)
     (λ c κs. search needs)
@@ -48,5 +49,14 @@ glides-spec =
       inLine = λ y. name-in-line _ (sym (c .id-cont .ensures) ∙ y);
       oneColumn = λ y. name-no-tab _ (sym (c .id-cont .ensures) ∙ y);
       onPage = λ y. name-on-page _ (sym (c .id-cont .ensures) ∙ y);
+    })
+    (λ c.
+    let k = c .before .if5 .taken in
+    let b = c .before .before .before .before .before .before .before .args .b in
+    record {
+      stays = λ page t s q y. spaces page t b (s ∙ k) (sym (c .plain-space .ensures) ∙ y) ∙ ap stay (sym k);
+      inLine = λ y. space-in-line b (sym (c .plain-space .ensures) ∙ y);
+      oneColumn = λ y. space-no-tab b (sym (c .plain-space .ensures) ∙ y);
+      onPage = λ y. space-on-page b (sym (c .plain-space .ensures) ∙ y);
     })
     (λ c. record { stays = λ page t s q y. absurd (true≢false (sym y)); inLine = λ y. absurd (true≢false (sym y)); oneColumn = λ y. absurd (true≢false (sym y)); onPage = λ y. absurd (true≢false (sym y)) }))
