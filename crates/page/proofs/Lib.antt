@@ -8,3 +8,4 @@ pub mod Lines
 pub mod Passing
 pub mod Rechecked
 pub mod Bytes
+pub mod Blocks

@@ -1,6 +1,6 @@
 -- What the one pass over a page has found out when it has come to a place: nothing at fault so far, an anchor of the place, and one of the
 -- start, as far as it is passed.
-use Prim.Native.Nat.{ℕ, _+_, _-_, _*_, _≤_, _<_}
+use Prim.Native.Nat.{ℕ, zero, suc, _+_, _-_, _*_, _≤_, _<_}
 use native.Mathlib.Omega.{arith}
 use native.Mathlib.Decide.{decLe}
 use mathlib.Core.Path.{_≡_, refl, sym, ap, _∙_}
@@ -13,6 +13,7 @@ use borrow.Author.Tests.{ne-eqb, lt-ltb, le-ltb}
 use Rattle.base.specs.Byte.{tab, lineFeed, carriageReturn}
 use Rattle.base.specs.If.{if_then_else_}
 use Rattle.base.proofs.Choice.{if-yes, if-no, or-no}
+use Rattle.base.proofs.Ranges.{within-is}
 use Rattle.base.specs.Page.{byteAt}
 use Rattle.page.specs.declared.line.Line.{Line}
 use Rattle.page.specs.declared.line.Anchor.{Anchor}
@@ -22,6 +23,7 @@ use Rattle.page.specs.Utf8.{sequence}
 use Rattle.page.specs.Line.{lineOf, columnOf, spot, lineAt, passedLine, onward, lineFrom, firstAnchor, anchorPast}
 use Rattle.page.specs.Text.{fault, readFrom, readText}
 use Rattle.page.specs.Page.{checkedBy}
+use Rattle.page.specs.Plain.{PlainTo}
 use Rattle.page.proofs.Places.{ascii-at}
 use Rattle.page.proofs.Reading.{passes-at, next-place, halts-return, halts-ill}
 use Rattle.page.proofs.Sequences.{sequence-high}
@@ -152,6 +154,23 @@ module _ (page : List ℕ) (start : ℕ) where
         let g = sequence-high page at here size a e i j in
         plain-byte (at + i) (getD page (at + i) 0) (byte-is page (at + i) (omega arith)) (λ f. omega (arith, f)) (λ f. omega (arith, f)))
         e z (λ f. omega (arith, f))
+
+  -- plain bytes are passed, one after the other
+  module _ (at : ℕ) (anchor begun : Anchor) (h : Reads page start at anchor begun) where
+    reads-run : (n : ℕ) → PlainTo page at (at + n) → Reads page start (at + n) anchor begun
+    reads-run zero p = let e : at + 0 ≡ at = omega arith in rw e h
+    reads-run (suc n) p =
+        let b = getD page (at + n) 0 in
+        let range = within-is 14 127 b (p .each (at + n) (omega arith) (omega arith)) in
+        let before = reads-run n (record { onward = omega arith; inPage = omega (arith, p .inPage); each = λ i f l. p .each i f (omega arith) }) in
+        let column : (eqb b lineFeed || eqb b tab) ≡ false = or-no _ _ (ne-eqb b lineFeed (λ f. omega (arith, f))) (ne-eqb b tab (λ f. omega (arith, f))) in
+        let e : at + suc n ≡ at + n + 1 = omega arith in
+        rw e (reads-ascii (at + n) anchor begun before (omega (arith, p .inPage)) b false refl (omega arith) (λ f. omega (arith, f)) (sym column) refl)
+
+    pub reads-plain : (end : ℕ) → PlainTo page at end → Reads page start end anchor begun
+    reads-plain end p =
+        let e : at + (end - at) ≡ end = omega (arith, p .onward) in
+        rw e at (reads-run (end - at) (rw e p))
 
   -- the page is read
   pub reads-all : (at : ℕ) (anchor begun : Anchor) (line : Line) → Reads page start at anchor begun → start ≤ length page → length page ≤ at → line ≡ lineFrom begun start → Good line ≡ checkedBy page start (readText page)

@@ -6,6 +6,7 @@ use crate::line::anchor_past;
 use crate::line::first_line;
 use crate::line::line_by;
 use crate::line::line_from;
+use crate::plain::skip_plain;
 use base::PAGE_LIMIT;
 use base::byte;
 use base::wide;
@@ -25,6 +26,7 @@ ghost use Rattle.page.specs.Text.{readText};
 ghost use Rattle.page.specs.Page.{liesInside, checkedBy, pageCheck};
 
 pub mod line;
+mod plain;
 
 // The byte that no page may hold, though UTF-8 has it.
 const CARRIAGE_RETURN: u8 = 13;
@@ -145,12 +147,13 @@ fn first_anchor() -> Anchor
 }
 
 // One pass over the page, which counts its lines and columns too: `anchor` is the last before the place, `begun` the last before the
-// start, once that is passed. Most bytes of most pages are ASCII, so that is asked first.
+// start, once that is passed. Plain bytes are skipped where they are likely to be many: at the beginning, and behind a line feed or a tab.
+// Of the others most are ASCII, so that is asked first.
 fn text(page: &[u8], start: usize) -> Checked
     requires { ⌜ (start ≤ length (now page)) × (length (now page) ≤ pageLimit) ⌝ }
     ensures { λ r. ⌜ r ≡ checkedBy (now (page .entry)) start (readText (now (page .entry))) ⌝ }
 {
-    let mut at = 0;
+    let mut at = skip_plain(page, 0);
     let mut anchor = first_anchor();
     let mut begun = first_anchor();
     while at < page.len() {
@@ -163,7 +166,7 @@ fn text(page: &[u8], start: usize) -> Checked
             if shifts(b) {
                 anchor = anchor_past(anchor, at, b);
                 begun = begun_by(anchor, begun, at < start);
-                at += 1;
+                at = skip_plain(page, at + 1);
                 continue;
             }
             at += 1;
