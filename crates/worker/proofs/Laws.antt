@@ -7,7 +7,7 @@ use mathlib.Core.Bool.{Bool, true, false, not, _&&_}
 use mathlib.Core.List.{List, [], _∷_, _++_}
 use lib.ListN.{length, take, drop}
 use lib.Dec.{ltb, eqb}
-use borrow.Author.Tests.{eq-eqb, ne-eqb, le-leb, lt-leb, le-ltb, lt-ltb, ltb-true, leb-true}
+use borrow.Author.Tests.{eq-eqb, ne-eqb, le-leb, lt-leb, le-ltb, lt-ltb, eqb-true, ltb-true, leb-true}
 use Rattle.base.proofs.Choice.{if-yes, if-no, if-is, and-yes, and-no, and-no′, and-also, both}
 use Rattle.base.specs.declared.Verdict.{Verdict}
 use Rattle.events.specs.Share.{shareOf, shareStart}
@@ -21,8 +21,9 @@ use Rattle.mdx_collect.specs.Collect.{Collected, collected, pieceOf, collectOf}
 use Rattle.worker.specs.declared.Place.{Place}
 use Rattle.worker.specs.declared.Worker.{Worker}
 use Rattle.worker.specs.Place.{placeOf, freePlace, placeIn, ended, placeInRange, nextIn, lowestIn, stored, workerInRange, holds}
+use Rattle.worker.specs.Inner.{Turned, ownInRange}
 use Rattle.worker.specs.Reply.{Left, left, refusing}
-use Rattle.worker.specs.Worker.{freshOf, startOf, placedBy, admitOf, givenBy, verdictOf, collectCall, liesIn, runAt, servedBy, servedAt, ready, turnAt, turnOf, holdsPage, readBy, bodyCall, pageAt, startAt, shareAt, eventsAt}
+use Rattle.worker.specs.Worker.{freshOf, startOf, placedBy, admitOf, givenBy, verdictOf, collectCall, pageIn, liesIn, servedAt, ready, turnAt, turnOf, holdsPage, readBy, bodyCall, pageAt, startAt, shareAt, eventsAt}
 
 -- a test that the code makes the other way round
 pub not-no : (b : Bool) → not b ≡ false → b ≡ true
@@ -34,6 +35,10 @@ not-no false e = sym e
 pub in-ring : (w : Worker) → workerInRange w ≡ true → w .last < 16
 unfolding workerInRange
 in-ring w e = ltb-true (w .last) 16 (both (ltb (w .last) 16) _ e .0)
+
+pub range-of : (w : Worker) → ownInRange (w .last) (w .q) ≡ workerInRange w
+unfolding ownInRange workerInRange
+range-of w = refl
 
 -- a page that is ready lies in the bytes
 pub lies : (p : Place) (lent : ℕ) → liesIn p lent ≡ true → p .at + p .scan .tokenizer .job .length ≤ lent
@@ -152,14 +157,36 @@ module _ (i : ℕ) (w : Worker) where
 
 -- ---- a turn
 
+-- a place after its run, over its page as the code lends it
+pub turned-by : (p : Place) (bytes : List ℕ) (q : ℕ) (share : List ℕ) (o : Ran) (words : List ℕ)
+    → single-call.leftBy o words ≡ runOf (take (p .at + p .scan .tokenizer .job .length - p .at) (drop (p .at) bytes)) q (p .scan) share
+    → Turned (p .at) (runOf (pageIn p bytes) q (p .scan) share) (placeOf true (p .at) (o .scan)) words
+turned-by p bytes q share o words e =
+    let size : p .at + p .scan .tokenizer .job .length - p .at ≡ p .scan .tokenizer .job .length = omega arith in
+    let run : single-call.leftBy o words ≡ runOf (pageIn p bytes) q (p .scan) share = e ∙ rw size in
+    record {
+      place = ap (λ (x : single-call.Left). placeOf true (p .at) (x .scan)) run;
+      words = ap (λ (x : single-call.Left). x .words) run;
+    }
+
 module _ (bytes : List ℕ) (w : Worker) (events : List ℕ) where
   pub turn-length : (length events ≡ w .words → ⊥) → refusing w events ≡ turnOf bytes w events
   unfolding turnOf
   turn-length h = if-no _ _ _ _ _ (and-no _ _ (ne-eqb (length events) (w .words) h)) refl
 
-  pub turn-forged : workerInRange w ≡ false → refusing w events ≡ turnOf bytes w events
+  abbrev can-turn : Bool
+  can-turn = eqb (length events) (w .words) && ownInRange (w .last) (w .q)
+
+  pub turn-refused : can-turn ≡ false → refusing w events ≡ turnOf bytes w events
   unfolding turnOf
-  turn-forged e = if-no _ _ _ _ _ (and-no′ (eqb (length events) (w .words)) _ e) refl
+  turn-refused e = if-no _ _ _ _ _ (ap (λ (b : Bool). eqb (length events) (w .words) && b) (sym (range-of w)) ∙ e) refl
+
+  -- what the test tells
+  pub turn-buffer : can-turn ≡ true → length events ≡ w .words
+  turn-buffer e = eqb-true (length events) (w .words) (both (eqb (length events) (w .words)) _ e .0)
+
+  pub turn-range : can-turn ≡ true → workerInRange w ≡ true
+  turn-range e = sym (range-of w) ∙ both (eqb (length events) (w .words)) _ e .1
 
   module _ (e : length events ≡ w .words) (r : workerInRange w ≡ true) (k : ℕ) (found : k ≡ nextIn (w .places) (w .last)) where
     turn-here : (d : Left) → d ≡ turnAt k bytes w events → d ≡ turnOf bytes w events
@@ -180,25 +207,18 @@ module _ (bytes : List ℕ) (w : Worker) (events : List ℕ) where
       turn-served f = turn-here _ (if-no _ _ _ _ _ (lt-leb 16 k h) (if-yes _ _ _ _ _ (ap (ready (placeIn (w .places) k) (length bytes)) (sym size) ∙ f) refl))
 
   -- the parts as the code lends them, and what the run left there
-  pub served-by : (k low n : ℕ) → low ≡ shareStart (shareOf (w .words)) k → n ≡ shareOf (w .words) → (o : Ran) (words : List ℕ) (w′ : Worker)
-      → w′ ≡ stored w k (placeOf true (placeIn (w .places) k .at) (o .scan)) (w .last)
-      → single-call.leftBy o words
-      ≡ runOf
-      (take (placeIn (w .places) k .at + placeIn (w .places) k .scan .tokenizer .job .length - placeIn (w .places) k .at) (drop (placeIn (w .places) k .at) bytes))
-      (w .q)
-      (placeIn (w .places) k .scan)
-      (take (low + n - low) (drop low events))
-      → left (record { places = w′ .places; last = k; q = w′ .q; words = w′ .words }) (said 36 (k ∷ [])) (take low events ++ (words ++ drop (low + n - low) (drop low events))) ≡ servedAt k bytes w events
+  pub served-by : (k n : ℕ) → n ≡ shareOf (w .words) → (p : Place) (words : List ℕ)
+      → Turned (placeIn (w .places) k .at)
+      (runOf (pageIn (placeIn (w .places) k) bytes) (w .q) (placeIn (w .places) k .scan) (take (k * n + n - k * n) (drop (k * n) events))) p words
+      → left (stored w k p k) (said 36 (k ∷ [])) (take (k * n) events ++ (words ++ drop (k * n + n - k * n) (drop (k * n) events))) ≡ servedAt k bytes w events
   unfolding servedAt
-  served-by k low n el en o words w′ ew eo =
-      let p = placeIn (w .places) k in
-      let size = shareOf (w .words) in
-      let sz : low + n - low ≡ size = omega arith in
-      let pz : p .at + p .scan .tokenizer .job .length - p .at ≡ p .scan .tokenizer .job .length = omega arith in
-      let run : single-call.leftBy o words ≡ runAt k bytes w events = eo ∙ rw (sz, pz, el) in
-      ap (λ (v : Worker). left (record { places = v .places; last = k; q = v .q; words = v .words }) (said 36 (k ∷ [])) (take low events ++ (words ++ drop (low + n - low) (drop low events)))) ew
-      ∙ ap₂ (λ (l m : ℕ). left (stored w k (placeOf true (p .at) (o .scan)) k) (said 36 (k ∷ [])) (take l events ++ (words ++ drop m (drop l events)))) el sz
-      ∙ ap (λ (x : single-call.Left). servedBy x k w events) run
+  served-by k n en p words t =
+      let sz : k * n + n - k * n ≡ n = omega arith in
+      let run : ℕ → ℕ → single-call.Left = λ m l. runOf (pageIn (placeIn (w .places) k) bytes) (w .q) (placeIn (w .places) k .scan) (take m (drop (k * l) events)) in
+      ap₂ (λ (q : Place) (ws : List ℕ). left (stored w k q k) (said 36 (k ∷ [])) (take (k * n) events ++ (ws ++ drop (k * n + n - k * n) (drop (k * n) events)))) (t .place) (t .words)
+      ∙ ap₂
+      (λ (m l : ℕ). left (stored w k (placeOf true (placeIn (w .places) k .at) (run m l .scan)) k) (said 36 (k ∷ [])) (take (k * l) events ++ (run m l .words ++ drop m (drop (k * l) events))))
+      (sz ∙ en) en
 
 -- ---- the page and the body of a place
 

@@ -11,8 +11,8 @@ use scan::beginning::no_scan;
 ghost use mathlib.Core.Path.{_≡_};
 ghost use Prim.Native.Nat.{_<_};
 ghost use Rattle.worker.specs.Ring.{places};
-ghost use Rattle.worker.specs.Place.{freePlace, running, placeInRange, nextIn, lowestIn, stored, workerInRange, holds};
-ghost use Rattle.worker.specs.Inner.{notCalled};
+ghost use Rattle.worker.specs.Place.{freePlace, running, placeInRange, lowestIn, stored, workerInRange, holds};
+ghost use Rattle.worker.specs.Inner.{notCalled, ownInRange};
 
 // As many as the event buffer has shares.
 pub const PLACES: usize = SHARES;
@@ -33,7 +33,7 @@ pub(crate) fn free_place() -> Place
 }
 
 // A page that neither asks nor has ended.
-fn is_running(p: Place) -> bool
+pub(crate) fn is_running(p: Place) -> bool
     ensures { λ r. ⌜ r ≡ running p ⌝ }
 {
     if p.taken {
@@ -53,21 +53,29 @@ pub(crate) fn place_in_range(share: usize, p: Place) -> bool
     scan.in_range()
 }
 
+// The ranges of a worker's own numbers: the place last served, and the steps of a turn. A turn asks it of the two, so as not to copy the
+// worker.
+pub(crate) fn own_in_range(last: usize, q: usize) -> bool
+    ensures { λ r. ⌜ r ≡ ownInRange last q ⌝ }
+{
+    if PLACES <= last {
+        return false;
+    }
+    if q < 1 {
+        return false;
+    }
+    if LONGEST_TURN < q {
+        return false;
+    }
+    true
+}
+
 impl Worker {
-    // Whether a call can have given this worker: the ranges of its own numbers.
+    // Whether a call can have given this worker.
     pub(crate) fn in_range(self) -> bool
         ensures { λ r. ⌜ r ≡ workerInRange self ⌝ }
     {
-        if PLACES <= self.last {
-            return false;
-        }
-        if self.q < 1 {
-            return false;
-        }
-        if LONGEST_TURN < self.q {
-            return false;
-        }
-        true
+        own_in_range(self.last, self.q)
     }
 
     // Whether there is a place i, with a page whose scan a call can have given. Only this place is looked at, so that a call costs the
@@ -86,24 +94,6 @@ impl Worker {
             return place_in_range(share_of(self.words), p);
         }
         false
-    }
-
-    // The next running place after the one last served, round the ring; 16 where none runs.
-    pub(crate) fn next(self) -> usize
-        requires { ⌜ self .last < places ⌝ }
-        ensures { λ r. ⌜ r ≡ nextIn (self .places) (self .last) ⌝ }
-    {
-        let mut j = (self.last + 1) % PLACES;
-        let mut k: usize = 0;
-        while k < PLACES {
-            let p = self.places[j];
-            if is_running(p) {
-                return j;
-            }
-            j = (j + 1) % PLACES;
-            k += 1;
-        }
-        PLACES
     }
 
     // The lowest free place; 16 where all are taken.
