@@ -62,7 +62,7 @@ fn inside_a_name(name: u8) -> bool
     }
 }
 
-// Whether the state passes any byte by a short way: one test, so that the others cost a step next to nothing.
+// Whether the state passes any byte by a short way: one test, which spares the other states the tests for each way.
 pub(crate) fn may_glide(name: u8) -> bool
     ensures { λ r. ⌜ r ≡ mayGlide name ⌝ }
 {

@@ -24,7 +24,7 @@ pub struct Job {
 }
 
 // What the states remember between steps. The fields go from wide to narrow, so that none has a gap behind it: a gap is copied through
-// the stack with every step. Only the quote comes after the bytes: that was counted, and is the quickest order.
+// the stack with every step. Only the quote comes after the bytes, which was counted to be quicker.
 pub struct Regs {
     // The place that a look-ahead goes back to.
     pub saved: usize,

@@ -59,7 +59,7 @@ fn served(p: Place, bytes: &[u8], share: &mut [u32], q: usize) -> Place
 impl Worker {
     // One turn: the next running place after the one last served, round the ring, makes q steps, or fewer where its page asks or ends.
     // Every other way out, and every method that takes the worker, would copy all of its places once more: so there is one way out, the
-    // ring is searched here, and the worker is changed in place. The place is read again for its turn: kept over the tests it was copied.
+    // ring is searched here, and the worker is changed in place. The place is read again for its turn, which was counted to be quicker.
     pub fn turn(mut self, bytes: &[u8], events: &mut [u32]) -> Called
         ensures { λ r. ⌜ leftBy r (now (events .exit)) ≡ turnOf (now (bytes .entry)) self (now (events .entry)) ⌝ }
     {
