@@ -1,4 +1,6 @@
 // The ground that every other crate stands on: names for bytes, kinds and states, and the decision that a state hands back.
+#![tactic(auto)]
+
 ghost use Rattle.std.specs.Prelude.{◌≡◌};
 ghost use Rattle.base.specs.Decide as decide;
 ghost use Rattle.base.specs.Page.{byte_at, after_line_feed, in_column_one};
@@ -12,7 +14,7 @@ pub mod state;
 pub const PAGE_LIMIT: usize = 1_048_576;
 
 // One event of a step. `Enter` and `Exit` stand at the step's place; `Leave` is an exit one byte past it.
-#[derive(Drop)]
+#[derive(Clone, Copy)]
 pub enum Mark {
     Enter(u8),
     Exit(u8),
@@ -20,7 +22,7 @@ pub enum Mark {
 }
 
 // The events of one step, in order: four at the most.
-#[derive(Drop)]
+#[derive(Clone, Copy)]
 pub enum Marks {
     Nothing,
     One(Mark),
@@ -30,7 +32,7 @@ pub enum Marks {
 }
 
 // How many columns of an unfinished tab are passed at a place: the `vs` of the Rust's `Point`. Outside is everywhere but inside a tab.
-#[derive(Drop)]
+#[derive(Clone, Copy)]
 pub enum InTab {
     Outside,
     Past1,
@@ -39,7 +41,7 @@ pub enum InTab {
 }
 
 // What a step does to the registers of a scan.
-#[derive(Drop)]
+#[derive(Clone, Copy)]
 pub enum Effect {
     Keep,
     // One brace deeper, one less deep.
@@ -69,7 +71,7 @@ pub enum Effect {
 }
 
 // One decision: the next state, whether the byte is eaten, the events, the effect.
-#[derive(Drop)]
+#[derive(Clone, Copy)]
 pub struct Move {
     pub next: u8,
     pub eat: bool,
@@ -78,7 +80,7 @@ pub struct Move {
 }
 
 // What a verdict says of a body. A number is 1 to 65,535; an error has an offset in the body.
-#[derive(Drop)]
+#[derive(Clone, Copy)]
 pub enum Verdict {
     Fine,
     Unfinished(u32),

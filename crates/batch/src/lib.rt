@@ -3,6 +3,8 @@
 //
 // A slice of structs is no form of the covered functions, so `fill` is two thin loops over covered ones, and its proof is a walk by hand:
 // a record is filled in `record`, and what a turn of each loop does is in `turns`.
+#![tactic(auto)]
+
 ghost use Rattle.std.specs.Prelude.{◌≡◌};
 ghost use Rattle.batch.specs.Batch.{batch, batch_of};
 
@@ -16,7 +18,7 @@ mod turns;
 // where the answer is Done, `site` the where-number, `first` the number of the event at which its own begin. What an answer does not
 // carry is 0.
 #[repr(C)]
-#[derive(Drop)]
+#[derive(Clone, Copy)]
 pub struct Opening {
     pub start: usize,
     pub construct: u8,
@@ -37,7 +39,7 @@ pub struct Opening {
 // lent; 12 where the list is refused, and nothing is touched. Beside it how many records are filled, and how many events stand in the
 // buffer.
 #[repr(C)]
-#[derive(Drop)]
+#[derive(Clone, Copy)]
 pub struct Filled {
     pub answer: u8,
     pub records: usize,

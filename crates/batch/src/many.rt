@@ -9,7 +9,7 @@ use crate::{Filled, Opening, fill};
 pub const MANY: usize = 256;
 
 // The records with their answers, and what became of the list.
-#[derive(Drop)]
+#[derive(Clone, Copy)]
 pub struct Many {
     pub openings: [Opening; MANY],
     pub filled: Filled,

@@ -11,7 +11,7 @@ use page::Checked;
 use scan::beginning::{ASKS, INTERRUPT, numbers_listed};
 
 // The next record to look at, where to stop, and the answer so far.
-#[derive(Drop)]
+#[derive(Clone, Copy)]
 pub struct Look {
     pub at: usize,
     pub stop: usize,
@@ -19,7 +19,7 @@ pub struct Look {
 }
 
 // The next record to answer, where to stop, how many events there are, and what is known of the page: its check for a start at `from`.
-#[derive(Drop)]
+#[derive(Clone, Copy)]
 pub struct Run {
     pub at: usize,
     pub stop: usize,
@@ -30,7 +30,7 @@ pub struct Run {
 }
 
 // What a turn of the second loop gives.
-#[derive(Drop)]
+#[derive(Clone, Copy)]
 pub struct Turned {
     pub opening: Opening,
     pub run: Run,

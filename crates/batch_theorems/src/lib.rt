@@ -1,1 +1,2 @@
 // No code: the theorems of lists of openings are in specs/Statement.antt and proofs/.
+#![tactic(auto)]

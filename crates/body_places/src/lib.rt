@@ -1,4 +1,6 @@
 // The body that a verdict is about, and where its bytes stand in the page.
+#![tactic(auto)]
+
 ghost use Rattle.std.specs.Prelude.{◌≡◌, ◌-◌, ◌<◌, ◌^◌};
 ghost use Rattle.body_places.specs.Body as body;
 

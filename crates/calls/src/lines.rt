@@ -3,7 +3,7 @@ use crate::script::{Script, bad_line, fresh_script, serve};
 use text::{Input, Line, Sort};
 
 // How far the input is used up, what the calls have come to, whether a read failed, and whether there is more to do.
-#[derive(Drop)]
+#[derive(Clone, Copy)]
 pub(crate) struct Run {
     pub input: Input,
     pub script: Script,

@@ -1,4 +1,6 @@
 // Drives one worker by a script: each line of standard input is a call, and its reply is written behind it.
+#![tactic(auto)]
+
 mod body;
 mod lines;
 mod reading;

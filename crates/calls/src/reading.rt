@@ -2,7 +2,7 @@
 use base::Verdict;
 use text::{Letters, Parsed, ReadLetters, ReadNumber, ReadVerdict};
 
-#[derive(Drop)]
+#[derive(Clone, Copy)]
 pub(crate) enum Call {
     // Where the bytes in hex begin on the line.
     Lend(usize),

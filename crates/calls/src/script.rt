@@ -8,7 +8,7 @@ use worker::{Called, Worker};
 
 // The worker, how many bytes are lent, how many words its event buffer has, how far the output's buffer is filled, the number of the
 // line at hand, and how many lines were no calls.
-#[derive(Drop)]
+#[derive(Clone, Copy)]
 pub(crate) struct Script {
     pub worker: Worker,
     pub lent: usize,

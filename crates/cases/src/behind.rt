@@ -1,7 +1,7 @@
 // What stands behind a case, and so what is written for its line.
 use crate::run::{Run, bad_line, counted};
 
-#[derive(Drop)]
+#[derive(Clone, Copy)]
 pub(crate) enum Behind {
     // The line ends with the case.
     Nothing,
@@ -14,7 +14,7 @@ pub(crate) enum Behind {
 }
 
 // An answer that is to be written, or needs not be: the line is counted, and what goes before the answer is put.
-#[derive(Drop)]
+#[derive(Clone, Copy)]
 pub(crate) struct Begun {
     pub run: Run,
     pub writes: bool,

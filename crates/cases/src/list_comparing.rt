@@ -9,7 +9,7 @@ use crate::list_telling::told_of;
 use batch::Opening;
 
 // The place past the parts of a list, and how many events the list wrote.
-#[derive(Drop)]
+#[derive(Clone, Copy)]
 struct Eaten {
     place: usize,
     events: usize,

@@ -13,7 +13,7 @@ const BAD_CALL: u8 = 12;
 
 // What is known of a list before it is run: whether all of its jobs could be read, and whether one of those that could has the list
 // refused.
-#[derive(Drop)]
+#[derive(Clone, Copy)]
 pub(crate) struct Judged {
     pub all_read: bool,
     pub refused: bool,
@@ -21,7 +21,7 @@ pub(crate) struct Judged {
 
 // How far a list has been run: where its next piece begins, how many events stand in the buffer, and whether a record was answered
 // Full, behind which none is filled.
-#[derive(Drop)]
+#[derive(Clone, Copy)]
 pub(crate) struct Front {
     pub at: usize,
     pub events: usize,
@@ -29,7 +29,7 @@ pub(crate) struct Front {
 }
 
 // A piece with its answers, of whose records the first `count` are its own, and the front behind it.
-#[derive(Drop)]
+#[derive(Clone, Copy)]
 pub(crate) struct Piece {
     pub many: Many,
     pub count: usize,

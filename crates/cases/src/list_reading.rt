@@ -7,14 +7,14 @@ use batch::many::MANY;
 use text::{Hex, Parsed, ReadNumber};
 
 // A list up to its jobs: the page's length, how many events fit, and where the jobs begin on the line.
-#[derive(Drop)]
+#[derive(Clone, Copy)]
 pub(crate) struct Head {
     pub length: usize,
     pub room: usize,
     pub jobs: usize,
 }
 
-#[derive(Drop)]
+#[derive(Clone, Copy)]
 pub(crate) enum ReadHead {
     Good(Head),
     Bad,
@@ -22,7 +22,7 @@ pub(crate) enum ReadHead {
 
 // The jobs of one piece as records with nothing answered yet, how many they are, where the next piece begins, and whether all of this
 // one's could be read.
-#[derive(Drop)]
+#[derive(Clone, Copy)]
 pub(crate) struct Jobs {
     pub openings: [Opening; MANY],
     pub count: usize,
@@ -30,7 +30,7 @@ pub(crate) struct Jobs {
     pub all_read: bool,
 }
 
-#[derive(Drop)]
+#[derive(Clone, Copy)]
 enum ReadJob {
     Job(Opening),
     NoJob,

@@ -7,7 +7,7 @@ use crate::list_telling::told_of;
 use batch::Opening;
 
 // How far the output's buffer is filled, and how many events the list wrote.
-#[derive(Drop)]
+#[derive(Clone, Copy)]
 struct Written {
     used: usize,
     events: usize,

@@ -1,5 +1,7 @@
 // Runs single scans and lists of them: each line of standard input is a case, or a list of jobs on one page. The answer is written
 // behind it; where an answer is recorded on the line, it is compared, and both are written only if they differ.
+#![tactic(auto)]
+
 mod behind;
 mod body;
 mod case_lines;

@@ -5,7 +5,7 @@ use crate::comparing::eat;
 use room::Enough;
 use text::{Hex, Letters, Parsed, ReadLetters, ReadNumber, ReadVerdict};
 
-#[derive(Drop)]
+#[derive(Clone, Copy)]
 pub(crate) struct Case {
     pub construct: u8,
     pub kind: u8,
@@ -20,7 +20,7 @@ pub(crate) struct Case {
     pub allowance: usize,
 }
 
-#[derive(Drop)]
+#[derive(Clone, Copy)]
 pub(crate) enum ReadCase {
     Good(Case),
     Bad,

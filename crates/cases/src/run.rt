@@ -3,7 +3,7 @@ use text::Input;
 
 // How far the input is used up and the output's buffer is filled, the number of the line at hand, what was counted, whether a read
 // failed, and whether there is more to do.
-#[derive(Drop)]
+#[derive(Clone, Copy)]
 pub(crate) struct Run {
     pub input: Input,
     pub used: usize,

@@ -16,14 +16,14 @@ const CALLS: usize = 1_000_000;
 const ASKING: u8 = 31;
 
 // The answer taken apart, and the length of its text, which stands at the start of a lent buffer.
-#[derive(Drop)]
+#[derive(Clone, Copy)]
 pub(crate) struct Outcome {
     pub told: Told,
     pub length: usize,
 }
 
 // What a call has come to, and the verdicts that are left.
-#[derive(Drop)]
+#[derive(Clone, Copy)]
 struct Turn {
     ran: Ran,
     more: bool,

@@ -2,6 +2,8 @@
 //
 // Each class is decided here and nowhere else, behind one function with one promise: a quicker test, or names in other
 // scripts, changes the inside of a function or one definition, and no caller.
+#![tactic(auto)]
+
 mod lookup;
 
 ghost use Rattle.std.specs.Prelude.{◌≡◌};

@@ -4,6 +4,8 @@
 //
 // All other fields are as wide as those that they stand for, so that nothing is cut off and nothing else needs a test: what no call can have
 // given is refused by the calls themselves. A scan's and a worker's numbers have no gap between them.
+#![tactic(auto)]
+
 pub mod answers;
 pub mod scans;
 pub mod workers;
@@ -11,7 +13,7 @@ pub mod workers;
 // What a call is answered: its number, and what it carries; what it does not carry is 0. `place` is the end for Done, and the number of a
 // worker's place where a page was admitted or a turn was made.
 #[repr(C)]
-#[derive(Drop)]
+#[derive(Clone, Copy)]
 pub struct AnswerNumbers {
     pub place: usize,
     pub line: usize,
@@ -26,7 +28,7 @@ pub struct AnswerNumbers {
 
 // Where a body is: 38 for a part of the page, 39 for the front of the scratch, or 12; and of what kind it is.
 #[repr(C)]
-#[derive(Drop)]
+#[derive(Clone, Copy)]
 pub struct BodyNumbers {
     pub at: usize,
     pub length: usize,
@@ -36,7 +38,7 @@ pub struct BodyNumbers {
 
 // How many words are enough: 40, or 2.
 #[repr(C)]
-#[derive(Drop)]
+#[derive(Clone, Copy)]
 pub struct EnoughNumbers {
     pub words: usize,
     pub number: u8,
@@ -45,7 +47,7 @@ pub struct EnoughNumbers {
 // A scan: its job, its tokenizer's state and registers, the lines of its three places, and what it has made. `flags` are those of its
 // beginning; `tab` is the number of columns passed of a tab; `heard` is the number of a verdict's case, with its own number and offset.
 #[repr(C)]
-#[derive(Drop)]
+#[derive(Clone, Copy)]
 pub struct ScanNumbers {
     pub length: usize,
     pub start: usize,
@@ -82,7 +84,7 @@ pub struct ScanNumbers {
 
 // The scan to go on with, beside the answer.
 #[repr(C)]
-#[derive(Drop)]
+#[derive(Clone, Copy)]
 pub struct RanNumbers {
     pub scan: ScanNumbers,
     pub answer: AnswerNumbers,
@@ -90,7 +92,7 @@ pub struct RanNumbers {
 
 // A worker's place; `taken` is 0 or 1.
 #[repr(C)]
-#[derive(Drop)]
+#[derive(Clone, Copy)]
 pub struct PlaceNumbers {
     pub scan: ScanNumbers,
     pub at: usize,
@@ -98,7 +100,7 @@ pub struct PlaceNumbers {
 }
 
 #[repr(C)]
-#[derive(Drop)]
+#[derive(Clone, Copy)]
 pub struct WorkerNumbers {
     pub places: [PlaceNumbers; 16],
     pub last: usize,
@@ -108,7 +110,7 @@ pub struct WorkerNumbers {
 
 // The worker to go on with, beside the answer.
 #[repr(C)]
-#[derive(Drop)]
+#[derive(Clone, Copy)]
 pub struct CalledNumbers {
     pub worker: WorkerNumbers,
     pub answer: AnswerNumbers,
@@ -116,7 +118,7 @@ pub struct CalledNumbers {
 
 // A worker that was started, 34, or 12. Where `fits` is 1, `longest` is the length of the longest page that cannot run full in it.
 #[repr(C)]
-#[derive(Drop)]
+#[derive(Clone, Copy)]
 pub struct StartedNumbers {
     pub worker: WorkerNumbers,
     pub longest: usize,

@@ -47,7 +47,7 @@ pub fn verdict_in(verdict: u8, number: u32, offset: usize) -> Verdict
 }
 
 // A verdict's case, number and offset; 0 for what it does not have.
-#[derive(Drop)]
+#[derive(Clone, Copy)]
 pub struct Heard {
     pub offset: usize,
     pub number: u32,

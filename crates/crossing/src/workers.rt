@@ -149,7 +149,7 @@ pub fn called_refused(worker: WorkerNumbers) -> CalledNumbers
 }
 
 // How many lengths of a longest page an answer says, none or one, and that one.
-#[derive(Drop)]
+#[derive(Clone, Copy)]
 pub struct Lengths {
     pub longest: usize,
     pub fits: u8,

@@ -1,4 +1,6 @@
 // Events in lent words: the Rust's `events` vector. How wide an event is, and which words of a buffer are a place's, is known here alone.
+#![tactic(auto)]
+
 ghost use Rattle.std.specs.Prelude.{◌≡◌, [], ◌∷◌, ◌+◌, ◌*◌, ◌≤◌, length, get_or};
 ghost use Rattle.base.specs.Decide.{count_of, list_of};
 ghost use Rattle.base.specs.Tab.{columns_of};
@@ -16,7 +18,7 @@ pub mod span;
 pub const WIDTH: usize = 4;
 
 // A place of the page, with its line and column, and how far it is inside a tab: the Rust's `Point`.
-#[derive(Drop)]
+#[derive(Clone, Copy)]
 pub struct Point {
     pub offset: u32,
     pub line: u32,
@@ -25,7 +27,7 @@ pub struct Point {
 }
 
 // An event: what is entered or left, and where.
-#[derive(Drop)]
+#[derive(Clone, Copy)]
 pub struct Event {
     pub kind: u32,
     pub exit: bool,

@@ -1,1 +1,2 @@
 // No code: the theorems of what crosses to another language are in specs/Statement.antt and proofs/.
+#![tactic(auto)]

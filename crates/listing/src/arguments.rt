@@ -2,13 +2,13 @@
 use text::Parsed;
 
 // Where the scan starts, and in flow or in text, by the numbers of docs/NUMBERS.md.
-#[derive(Drop)]
+#[derive(Clone, Copy)]
 pub(crate) struct Asked {
     pub start: usize,
     pub kind: u8,
 }
 
-#[derive(Drop)]
+#[derive(Clone, Copy)]
 pub(crate) enum ReadArguments {
     Good(Asked),
     Bad,

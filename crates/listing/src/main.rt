@@ -2,6 +2,8 @@
 // event count, then a line for each event. The status is 0 for Done, 1 for any other answer and 2 where there is none.
 //
 // `listing [START [f|t]]`: the scan starts at an offset of the page, 0 if it is left out, in flow or in text.
+#![tactic(auto)]
+
 mod arguments;
 mod reading;
 mod scanning;

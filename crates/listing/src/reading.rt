@@ -1,7 +1,7 @@
 // The page, from standard input.
 use text::Input;
 
-#[derive(Drop)]
+#[derive(Clone, Copy)]
 pub(crate) enum ReadPage {
     // How many bytes stand at the start of the space: all of the input, or as many as fit.
     Read(usize),

@@ -2,6 +2,8 @@
 //
 // A verdict source that is asked again and again about a growing body, as at each `}` of `{}}}}`, gets a part of the page each time, found
 // without a look at the body. Only where a line prefix stands between two bytes of it is the body copied.
+#![tactic(auto)]
+
 ghost use Rattle.std.specs.Prelude.{◌≡◌, ◌-◌, ◌≤◌, length};
 ghost use Rattle.std.proofs.lemmas.List.Edits.{sets};
 ghost use Rattle.base.specs.Page.{page_limit};
@@ -17,7 +19,7 @@ pub mod kind;
 const SPACE: u8 = 32;
 
 // Where a body is: a part of the page, or the front of the scratch.
-#[derive(Drop)]
+#[derive(Clone, Copy)]
 pub enum Body {
     InPage { at: usize, length: usize },
     InScratch { length: usize },

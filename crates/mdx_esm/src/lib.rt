@@ -1,4 +1,6 @@
 // `import` and `export` blocks: the states of `mdx_esm.rs`, and the look-ahead for a blank line.
+#![tactic(auto)]
+
 ghost use Rattle.std.specs.Prelude.{◌≡◌, ◌+◌, ◌<◌, ◌^◌, length};
 ghost use Rattle.mdx_esm.specs.Esm as esm;
 ghost use Rattle.mdx_esm.specs.Word.{spells, is_word};

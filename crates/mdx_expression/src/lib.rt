@@ -1,5 +1,7 @@
 // From `{` to its `}`: the states of `partial_mdx_expression.rs`. Each is handed the byte at its place and the registers that it
 // reads, and hands back one decision.
+#![tactic(auto)]
+
 ghost use Rattle.std.specs.Prelude.{◌≡◌};
 ghost use Rattle.mdx_expression.specs.Expression as expression;
 

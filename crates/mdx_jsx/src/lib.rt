@@ -1,5 +1,7 @@
 // One tag, from `<` to `>`: the start, the end, the white space between, and what the states of names and attributes share. The
 // Rust is `partial_mdx_jsx.rs`.
+#![tactic(auto)]
+
 ghost use Rattle.std.specs.Prelude.{◌≡◌};
 ghost use Rattle.mdx_jsx.specs.Jsx as jsx;
 

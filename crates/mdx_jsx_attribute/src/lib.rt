@@ -1,4 +1,6 @@
 // The attributes of a tag: the states of `partial_mdx_jsx.rs` from the name to the end of the tag.
+#![tactic(auto)]
+
 ghost use Rattle.std.specs.Prelude.{◌≡◌};
 ghost use Rattle.mdx_jsx_attribute.specs.Attribute as attribute;
 

@@ -1,4 +1,6 @@
 // The name of a tag: the states of `partial_mdx_jsx.rs` from the name to the first attribute.
+#![tactic(auto)]
+
 ghost use Rattle.std.specs.Prelude.{◌≡◌};
 ghost use Rattle.mdx_jsx_name.specs.Name as name;
 

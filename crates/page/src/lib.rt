@@ -1,4 +1,6 @@
 // What must hold of a page before any scan: its length, its place in the lent bytes, and its text.
+#![tactic(auto)]
+
 ghost use Rattle.std.specs.Prelude.{◌≡◌, ◌||◌, ◌+◌, ◌≤◌, ◌<◌, eqb, length, get_or, drop, [], ◌∷◌};
 ghost use Rattle.base.specs.Byte.{tab, line_feed};
 ghost use Rattle.base.specs.If.{if◌then◌else◌};
@@ -20,7 +22,7 @@ mod plain;
 const CARRIAGE_RETURN: u8 = 13;
 
 // What a page is answered. The three refusals are the answers 2, 3 and 4 of the answer table.
-#[derive(Drop)]
+#[derive(Clone, Copy)]
 pub enum Checked {
     // The line of the start.
     Good(Line),

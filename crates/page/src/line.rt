@@ -6,14 +6,14 @@ ghost use Rattle.page.specs.Line.{column_behind, first_line, next_line, passed_l
 use base::{byte, byte_at};
 
 // The line and the column of a place, both counted from 1.
-#[derive(Drop)]
+#[derive(Clone, Copy)]
 pub struct Line {
     pub number: usize,
     pub column: usize,
 }
 
 // A place of the page, with its line and column.
-#[derive(Drop)]
+#[derive(Clone, Copy)]
 pub struct Spot {
     pub place: usize,
     pub line: usize,
@@ -21,7 +21,7 @@ pub struct Spot {
 }
 
 // A place whose line and column are known, and behind which no line feed and no tab has come yet.
-#[derive(Drop)]
+#[derive(Clone, Copy)]
 pub struct Anchor {
     pub line: Line,
     pub from: usize,

@@ -1,5 +1,7 @@
 // Runs the page check and the classes on recorded inputs, and compares. Standard input has one a line, as vectors/text.rs
 // writes them; a line that can't be read counts as a difference.
+#![tactic(auto)]
+
 use libc::{STDIN_FILENO, STDOUT_FILENO};
 use page::Checked;
 use text::{Hex, Parsed};
@@ -9,7 +11,7 @@ const INPUT_ROOM: usize = 2_097_152;
 
 const TEXT_ROOM: usize = 16_384;
 
-#[derive(Drop)]
+#[derive(Clone, Copy)]
 struct Tally {
     compared: u64,
     differ: u64,

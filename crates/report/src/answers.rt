@@ -7,7 +7,7 @@ use scan::{Answer, Tally};
 
 // An answer's number, the values that it carries in the table's order, and its events and steps. Where the first value is a place, it
 // has a line and a column. What is not carried is 0. Asking, Paused and Kept, which the table does not number, are 31 to 33.
-#[derive(Drop)]
+#[derive(Clone, Copy)]
 pub struct Told {
     pub number: u8,
     pub values: u8,

@@ -3,6 +3,8 @@
 //
 // Each function puts its text at a place of the buffer and answers the place past it. A piece of text that does not fit is not
 // put there at all, and the place stays. A place past the buffer's end counts as its end.
+#![tactic(auto)]
+
 mod answers;
 mod kinds;
 mod marks;

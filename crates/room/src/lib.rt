@@ -1,6 +1,8 @@
 // How much event room is enough: the words for a page of a given length, and the longest page for a given room. Six events for each byte
 // and for the page's end are enough for every scan, whatever its page, its start and its verdicts: theorems say so, in `scan_theorems` of
 // single scans and in `worker_theorems` of a worker's places.
+#![tactic(auto)]
+
 ghost use Rattle.std.specs.Prelude.{◌≡◌};
 ghost use Rattle.room.specs.Room.{enough_of, enough_by, longest_of, longest_by};
 
@@ -11,7 +13,7 @@ use events::WIDTH;
 pub const AT_EACH_BYTE: usize = 6;
 
 // How many words are enough for a page.
-#[derive(Drop)]
+#[derive(Clone, Copy)]
 pub enum Enough {
     Words(usize),
     // No page is so long.
@@ -19,7 +21,7 @@ pub enum Enough {
 }
 
 // The longest page for which a room is enough.
-#[derive(Drop)]
+#[derive(Clone, Copy)]
 pub enum Longest {
     // It is not enough for the empty page.
     NoPage,

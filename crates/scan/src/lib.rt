@@ -3,6 +3,8 @@
 //
 // Its steps are in `stepping` and their short way in `gliding`, its lines in `lines`, its answers in `answering`, a new scan in
 // `beginning`, and the calls of one that was begun in `calling`.
+#![tactic(auto)]
+
 use crate::lines::Lines;
 use page::line::Spot;
 use tokenizer::Tokenizer;
@@ -14,7 +16,7 @@ pub mod gliding;
 pub mod lines;
 pub mod stepping;
 
-#[derive(Drop)]
+#[derive(Clone, Copy)]
 pub struct Scan {
     pub tokenizer: Tokenizer,
     pub lines: Lines,
@@ -23,14 +25,14 @@ pub struct Scan {
 }
 
 // What a scan has made so far: events written, and steps.
-#[derive(Drop)]
+#[derive(Clone, Copy)]
 pub struct Tally {
     pub events: usize,
     pub steps: usize,
 }
 
 // What a call is answered. Places count from the page's first byte, and each has its line and column; `site` is the where-number.
-#[derive(Drop)]
+#[derive(Clone, Copy)]
 pub enum Answer {
     Done {
         end: usize,
@@ -89,14 +91,14 @@ pub enum Answer {
 }
 
 // The state to go on with, beside the answer.
-#[derive(Drop)]
+#[derive(Clone, Copy)]
 pub struct Ran {
     pub scan: Scan,
     pub answer: Answer,
 }
 
 // A new scan, or why there is none.
-#[derive(Drop)]
+#[derive(Clone, Copy)]
 pub enum Began {
     Started(Scan),
     Refused(Answer),

@@ -11,7 +11,7 @@ use events::Point;
 use page::line::{Line, Spot, column_behind, line_at};
 
 // The lines of the three places that a scan remembers.
-#[derive(Drop)]
+#[derive(Clone, Copy)]
 pub struct Lines {
     // Of its own place.
     pub line: Line,

@@ -3,6 +3,8 @@
 // hands back; it adds nothing of its own. Numbers that stand for no scan or worker are handed back as they were, with 12.
 //
 // A lent slice is a pointer and a length. What a pointer points to is the caller's word: nothing here can look at it.
+#![tactic(auto)]
+
 pub mod lists;
 pub mod scans;
 pub mod workers;

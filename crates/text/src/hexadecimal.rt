@@ -8,7 +8,7 @@ use crate::words::is_word;
 // What hex_value answers for a byte that is no digit.
 pub const NO_DIGIT: u8 = 16;
 
-#[derive(Drop)]
+#[derive(Clone, Copy)]
 pub enum Hex {
     // How many bytes were put at the start of the buffer.
     Decoded(usize),

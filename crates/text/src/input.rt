@@ -9,7 +9,7 @@ use crate::places::find;
 use libc::STDIN_FILENO;
 
 // The unused bytes are those from `at` up to `end`. A line that was too long is being skipped; the input has ended.
-#[derive(Drop)]
+#[derive(Clone, Copy)]
 pub struct Input {
     pub at: usize,
     pub end: usize,
@@ -17,7 +17,7 @@ pub struct Input {
     pub ended: bool,
 }
 
-#[derive(Drop)]
+#[derive(Clone, Copy)]
 pub enum Line {
     // A line, without its line feed. The last one may have had none.
     Whole,
@@ -33,14 +33,14 @@ pub enum Line {
 
 // What a read has come to: the input to go on with, and whether the read failed. A read that fails gives nothing, so that the input
 // has ended there; whoever reads on says so.
-#[derive(Drop)]
+#[derive(Clone, Copy)]
 pub struct Refill {
     pub input: Input,
     pub failed: bool,
 }
 
 // What was taken, where it stands in the buffer, and the input to go on with.
-#[derive(Drop)]
+#[derive(Clone, Copy)]
 pub struct Taken {
     pub line: Line,
     pub from: usize,

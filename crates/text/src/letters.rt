@@ -3,14 +3,14 @@ ghost use Rattle.std.specs.Prelude.{◌≡◌};
 ghost use Rattle.text.specs.Letters.{letter_at, construct_of, choice_of, flags_of, checked_of, letters_of};
 
 // The numbers of docs/NUMBERS.md.
-#[derive(Drop)]
+#[derive(Clone, Copy)]
 pub struct Letters {
     pub construct: u8,
     pub kind: u8,
     pub flags: u8,
 }
 
-#[derive(Drop)]
+#[derive(Clone, Copy)]
 pub enum ReadLetters {
     Asked(Letters),
     NoLetters,

@@ -3,6 +3,8 @@
 //
 // A part of a line is given by the place of its first byte and the place past its last. No function asks anything of
 // its caller: a part that does not lie in the line is no word, no number, no hex and no verdict.
+#![tactic(auto)]
+
 mod hexadecimal;
 mod input;
 mod letters;

@@ -9,7 +9,7 @@ const LARGEST: u64 = 4_294_967_295;
 
 const MOST_DIGITS: usize = 10;
 
-#[derive(Drop)]
+#[derive(Clone, Copy)]
 pub enum Parsed {
     Number(u64),
     Bad,
@@ -17,7 +17,7 @@ pub enum Parsed {
 
 // A number that is a field of a line, and the place past the space that follows it. Where the line ends with the number, that is
 // one past the line's end.
-#[derive(Drop)]
+#[derive(Clone, Copy)]
 pub enum ReadNumber {
     Field { number: usize, next: usize },
     NoField,

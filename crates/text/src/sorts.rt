@@ -2,7 +2,7 @@
 ghost use Rattle.std.specs.Prelude.{◌≡◌};
 ghost use Rattle.text.specs.Sort.{sort_of};
 
-#[derive(Drop)]
+#[derive(Clone, Copy)]
 pub enum Sort {
     // It is empty or begins with `#`, and is for people alone.
     Comment,

@@ -6,7 +6,7 @@ use crate::numbers::{Parsed, decimal};
 use crate::places::find;
 use base::Verdict;
 
-#[derive(Drop)]
+#[derive(Clone, Copy)]
 pub enum ReadVerdict {
     Heard(Verdict),
     NoVerdict,

@@ -1,5 +1,7 @@
 // The tokenizer by value: what a scan remembers between steps (here), which decision its state makes (`deciding`, the Rust's
 // `state.rs`), what a decision does to it (`moving`), and which tokenizers a call can have given (`ranges`).
+#![tactic(auto)]
+
 use base::Verdict;
 
 pub mod deciding;
@@ -7,7 +9,7 @@ pub mod moving;
 pub mod ranges;
 
 // What a scan was asked to read. No step changes it.
-#[derive(Drop)]
+#[derive(Clone, Copy)]
 pub struct Job {
     // EXPRESSION, TAG or ESM.
     pub construct: u8,
@@ -26,7 +28,7 @@ pub struct Job {
 
 // What the states remember between steps. The fields go from wide to narrow, so that none has a gap behind it: a gap is copied through
 // the stack with every step. Only the quote comes after the bytes, which was counted to be quicker.
-#[derive(Drop)]
+#[derive(Clone, Copy)]
 pub struct Regs {
     // The place that a look-ahead goes back to.
     pub saved: usize,
@@ -51,7 +53,7 @@ pub struct Regs {
 }
 
 // The Rust's tokenizer, by value and without its events: the state that runs next, its place, and what the states remember.
-#[derive(Drop)]
+#[derive(Clone, Copy)]
 pub struct Tokenizer {
     pub job: Job,
     pub state: u8,

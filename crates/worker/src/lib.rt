@@ -3,6 +3,8 @@
 // A worker is started and takes pages in `admitting`; `turning` serves them, `judging` hears a verdict, `collecting` gives an answer and
 // frees a place, `reading` finds what a place has in the memory that its caller lends, and `viewing` says where that is and what the place
 // waits for. `places` has what they share.
+#![tactic(auto)]
+
 use room::Longest;
 use scan::{Answer, Scan};
 
@@ -15,7 +17,7 @@ pub mod turning;
 pub mod viewing;
 
 // A place, taken or free. Its page begins at `at` of the lent bytes. A verdict that is kept is in the scan, which then runs again.
-#[derive(Drop)]
+#[derive(Clone, Copy)]
 pub struct Place {
     pub taken: bool,
     pub at: usize,
@@ -23,7 +25,7 @@ pub struct Place {
 }
 
 // `last` is the place last served, `q` the steps of a turn, `words` the length of the event buffer.
-#[derive(Drop)]
+#[derive(Clone, Copy)]
 pub struct Worker {
     pub places: [Place; 16],
     pub last: usize,
@@ -33,7 +35,7 @@ pub struct Worker {
 
 // What a call is answered. Its cases are told apart by number, and no number has two cases: what a single scan is answered too is
 // `Answered`.
-#[derive(Drop)]
+#[derive(Clone, Copy)]
 pub enum Reply {
     // A worker is started; this is the longest page that cannot run full in any of its places.
     Started(Longest),
@@ -54,7 +56,7 @@ pub enum Reply {
 }
 
 // The worker to go on with, beside the answer.
-#[derive(Drop)]
+#[derive(Clone, Copy)]
 pub struct Called {
     pub worker: Worker,
     pub reply: Reply,

@@ -20,7 +20,7 @@ pub const ENDED: u8 = 3;
 // What there is of a place. Its page is `length` bytes from `at` on of the lent bytes, its events begin at the word `first` of the event
 // buffer, and `events` of them are written; `body` is the kind of body that it asks about. What there is not is 0.
 #[repr(C)]
-#[derive(Drop)]
+#[derive(Clone, Copy)]
 pub struct View {
     pub at: usize,
     pub length: usize,

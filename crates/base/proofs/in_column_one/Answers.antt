@@ -1,0 +1,9 @@
+use Rattle.base.proofs.Choice.{picks}
+use borrow.Author.Rules.{rules}
+use Rattle.base.proofs.in_column_one.Goals as goal
+
+pub returns-then-at-eq0 : goal.returns-then-at-eq0
+returns-then-at-eq0 c = search picks depth 12
+
+pub returns : goal.returns
+returns c = search picks depth 12

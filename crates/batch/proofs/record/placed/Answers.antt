@@ -1,0 +1,5 @@
+use borrow.Author.Rules.{rules}
+use Rattle.batch.proofs.record.placed.Goals as goal
+
+pub returns : goal.returns
+returns c = rw c.bare-record.ensures

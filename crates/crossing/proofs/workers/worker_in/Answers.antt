@@ -1,0 +1,19 @@
+use Prim.Native.Nat.{◌-◌, ◌≤◌}
+use native.Mathlib.Omega.{arith}
+use borrow.Author.Rules.{rules}
+use mathlib.Core.Path.{refl}
+use Rattle.worker.specs.Place.{beyond}
+use Rattle.crossing.specs.Workers.{place_in, numbers_at, worker_in}
+use Rattle.crossing.proofs.Tables.{Begun, begins, goes_on_lem, ends}
+use Rattle.crossing.proofs.workers.worker_in.Goals as goal
+
+pub loop-k-init : goal.loop-k-init
+loop-k-init c = (omega arith, begins _ _ 16 _ refl)
+
+pub loop-k-preserved : goal.loop-k-preserved
+loop-k-preserved c =
+    (omega arith, goes_on_lem _ _ 16 c.loop-k.k c.loop-k.places c.place_in_lem.result (omega arith) c.place_in_lem.ensures c.loop-k.invariant.1)
+
+pub returns : goal.returns
+unfolding worker_in
+returns c = rw (ends _ _ 16 c.loop-k.k c.loop-k.places (omega arith) c.loop-k.invariant.1)

@@ -1,0 +1,19 @@
+use Prim.Native.Nat.{◌-◌, ◌≤◌}
+use native.Mathlib.Omega.{arith}
+use borrow.Author.Rules.{rules}
+use mathlib.Core.Path.{refl}
+use Rattle.worker.specs.Place.{place_in}
+use Rattle.crossing.specs.Workers.{beyond, place_out, worker_out}
+use Rattle.crossing.proofs.Tables.{Begun, begins, goes_on_lem, ends}
+use Rattle.crossing.proofs.workers.worker_out.Goals as goal
+
+pub loop-k-init : goal.loop-k-init
+loop-k-init c = (omega arith, begins _ _ 16 _ refl)
+
+pub loop-k-preserved : goal.loop-k-preserved
+loop-k-preserved c =
+    (omega arith, goes_on_lem _ _ 16 c.loop-k.k c.loop-k.places c.IsPlace_out.result (omega arith) c.IsPlace_out.ensures c.loop-k.invariant.1)
+
+pub returns : goal.returns
+unfolding worker_out
+returns c = rw (ends _ _ 16 c.loop-k.k c.loop-k.places (omega arith) c.loop-k.invariant.1)

@@ -1,0 +1,14 @@
+use Prim.Native.Nat.{◌-◌, ◌≤◌}
+use native.Mathlib.Omega.{arith}
+use borrow.Author.Rules.{rules}
+use mathlib.Core.Path.{refl}
+use Rattle.worker.specs.Place.{place_in}
+use Rattle.crossing.specs.Workers.{beyond, place_out, worker_out}
+use Rattle.crossing.proofs.Tables.{Begun, begins, goes_on_lem, ends}
+use Rattle.crossing.proofs.workers.worker_out.Given as goal
+
+abbrev pub invariant-loop-k : goal.invariant-loop-k
+invariant-loop-k l = (l.k ≤ 16) × Begun (λ i. place_out (place_in l.worker.places i)) beyond 16 l.k l.places
+
+abbrev pub decreases-loop-k : goal.decreases-loop-k
+decreases-loop-k l = 16 - l.k

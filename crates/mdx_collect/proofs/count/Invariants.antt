@@ -1,0 +1,19 @@
+use Prim.Native.Nat.{◌+◌, ◌*◌, ◌≤◌, ◌-◌}
+use native.Mathlib.Omega.{arith}
+use mathlib.Core.Path.{◌≡◌, sym, ◌∙◌}
+use mathlib.Core.Bool.{true, false}
+use lib.ListN.{length}
+use borrow.Author.Rules.{rules}
+use borrow.Author.Tests.{ltb-true}
+use Rattle.base.proofs.Choice.{both}
+use Rattle.base.specs.Page.{byte_at}
+use Rattle.body_places.specs.Body.{in_prefix, splits, expression_cells}
+use Rattle.mdx_collect.proofs.Laws.{bytes_left, bytes_long, passed_over, split_over, counted, all_counted}
+use Rattle.mdx_collect.proofs.count.Given as goal
+
+-- what is counted and what is left to count make the whole
+abbrev pub invariant-loop-at : goal.invariant-loop-at
+invariant-loop-at l = (l.n ≤ 4 * l.at) × (l.n + length (bytes_left l.page l.left l.at l.to) ≡ length (expression_cells l.page l.from l.to))
+
+abbrev pub decreases-loop-at : goal.decreases-loop-at
+decreases-loop-at l = l.to - l.at

@@ -1,0 +1,9 @@
+use Rattle.base.proofs.Choice.{picks}
+use borrow.Author.Rules.{rules}
+use Rattle.mdx_esm.proofs.exits.Goals as goal
+
+pub returns-then-exits_behind : goal.returns-then-exits_behind
+returns-then-exits_behind c = search picks depth 12
+
+pub returns-else-exits_behind : goal.returns-else-exits_behind
+returns-else-exits_behind c = search picks depth 12

@@ -1,0 +1,11 @@
+use borrow.Author.Rules.{rules}
+use Rattle.mdx_esm.proofs.verdict.Goals as goal
+
+pub returns-in-Fine : goal.returns-in-Fine
+returns-in-Fine c = rw c.in-Fine.is c.exits.ensures
+
+pub returns-in-Unfinished : goal.returns-in-Unfinished
+returns-in-Unfinished c = rw c.in-Unfinished.is c.unfinished.ensures
+
+pub returns-in-Wrong : goal.returns-in-Wrong
+returns-in-Wrong c = rw c.in-Wrong.is c.retry_with.ensures

@@ -1,0 +1,9 @@
+use Rattle.base.proofs.Choice.{picks}
+use borrow.Author.Rules.{rules}
+use Rattle.mdx_jsx.proofs.start.Goals as goal
+
+pub returns-then-b-eq-LESS_THAN : goal.returns-then-b-eq-LESS_THAN
+returns-then-b-eq-LESS_THAN c = search picks depth 12
+
+pub returns-else-b-eq-LESS_THAN : goal.returns-else-b-eq-LESS_THAN
+returns-else-b-eq-LESS_THAN c = search picks depth 12

@@ -1,0 +1,12 @@
+use Rattle.base.proofs.Choice.{picks}
+use borrow.Author.Rules.{rules}
+use Rattle.mdx_jsx_name.proofs.member_name_ends.Goals as goal
+
+pub returns-then-whitespace_or_end : goal.returns-then-whitespace_or_end
+returns-then-whitespace_or_end c = search picks depth 12
+
+pub returns-then-b-eq-DOT : goal.returns-then-b-eq-DOT
+returns-then-b-eq-DOT c = search picks depth 12
+
+pub returns : goal.returns
+returns c = search picks depth 12

@@ -1,0 +1,5 @@
+use borrow.Author.Rules.{rules}
+use Rattle.page.proofs.first_anchor.Goals as goal
+
+pub returns : goal.returns
+returns c = rw c.first_line-line.ensures

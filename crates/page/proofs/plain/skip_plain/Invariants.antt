@@ -1,0 +1,14 @@
+-- The invariant: all that is passed is plain.
+use Prim.Native.Nat.{◌-◌}
+use lib.ListN.{length}
+use borrow.Author.Rules.{rules}
+use borrow.Author.Tests.{not-false}
+use Rattle.page.specs.Plain.{PlainTo}
+use Rattle.page.proofs.Blocks.{plain_none, plain_more}
+use Rattle.page.proofs.plain.skip_plain.Given as goal
+
+abbrev pub invariant-loop-at : goal.invariant-loop-at
+invariant-loop-at l = PlainTo l.page l.from l.at
+
+abbrev pub decreases-loop-at : goal.decreases-loop-at
+decreases-loop-at l = length l.page - l.at

@@ -1,0 +1,5 @@
+use borrow.Author.Rules.{rules}
+use Rattle.report.proofs.answers.ended.Goals as goal
+
+pub returns : goal.returns
+returns c = rw c.bare-told.ensures

@@ -1,0 +1,19 @@
+-- The invariant: what is copied and what is left to copy make the whole.
+use Prim.Native.Nat.{◌+◌, ◌-◌, ◌≤◌}
+use native.Mathlib.Nat.{add-zero}
+use native.Mathlib.Omega.{arith}
+use mathlib.Core.Path.{◌≡◌, refl, sym, ◌∙◌}
+use lib.ListN.{length, drop, get_or, length-set}
+use lib.Seq.{sets}
+use Rattle.report.proofs.Copied.{one_more_lem, all_copied}
+use Rattle.report.proofs.pieces.copy.Given as goal
+
+abbrev pub invariant-loop-i : goal.invariant-loop-i
+invariant-loop-i l =
+    (l.i ≤ length l.bytes) ×
+    (length l.out ≡ length l.initial.out) ×
+    (l.at + length l.bytes ≤ length l.initial.out) ×
+    (sets l.initial.out l.at l.bytes ≡ sets l.out (l.at + l.i) (drop l.i l.bytes))
+
+abbrev pub decreases-loop-i : goal.decreases-loop-i
+decreases-loop-i l = length l.bytes - l.i

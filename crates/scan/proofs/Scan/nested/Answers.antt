@@ -1,0 +1,6 @@
+use borrow.Author.Rules.{rules}
+use Rattle.scan.proofs.Scan.nested.Goals as goal
+
+pub returns : goal.returns
+returns c =
+    rw (c.Passed_lines.ensures, c.depth_past.ensures, c.count_steps-steps.ensures, c.step_bound.ensures)

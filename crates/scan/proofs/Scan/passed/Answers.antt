@@ -1,0 +1,5 @@
+use borrow.Author.Rules.{rules}
+use Rattle.scan.proofs.Scan.passed.Goals as goal
+
+pub returns : goal.returns
+returns c = rw (c.Passed_lines.ensures, c.count_steps-steps.ensures, c.step_bound.ensures)

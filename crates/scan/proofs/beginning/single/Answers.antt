@@ -1,0 +1,34 @@
+use native.Mathlib.Omega.{arith}
+use borrow.Author.Rules.{rules}
+use Rattle.scan.proofs.Singles.{none_allowed, begun_lies, single_ran, single_refused}
+use Rattle.scan.proofs.beginning.single.Goals as goal
+
+pub returns-then-allowance-eq0 : goal.returns-then-allowance-eq0
+returns-then-allowance-eq0 c =
+    let a = c.args in
+    let n = c.not_begun.ensures in
+    rw (n.0, n.1) (none_allowed a.bytes.now a.at a.length a.start a.construct a.kind a.flags a.allowance a.events.now c.if-allowance-eq0.true)
+
+-- the page lies inside the lent bytes
+pub overflow_add-end : goal.overflow_add-end
+overflow_add-end c =
+    let a = c.args in
+    let l = begun_lies a.bytes.now a.at a.length a.start a.construct a.kind a.flags a.allowance a.events.now _ c.new-began.ensures _ c.in-Started.is in
+    omega arith
+
+pub slice_bounds-run-end : goal.slice_bounds-run-end
+slice_bounds-run-end c =
+    let a = c.args in
+    let l = begun_lies a.bytes.now a.at a.length a.start a.construct a.kind a.flags a.allowance a.events.now _ c.new-began.ensures _ c.in-Started.is in
+    search (rules, l)
+
+pub returns-in-Started : goal.returns-in-Started
+returns-in-Started c =
+    let a = c.args in
+    single_ran a.bytes.now a.at a.length a.start a.construct a.kind a.flags a.allowance a.events.now _ c.new-began.ensures _ _ c.in-Started.is c.if-allowance-eq0.false c.run.ensures
+
+pub returns-in-Refused : goal.returns-in-Refused
+returns-in-Refused c =
+    let a = c.args in
+    let k = c.not_begun-in-Refused.ensures in
+    rw (k.0, k.1) (single_refused a.bytes.now a.at a.length a.start a.construct a.kind a.flags a.allowance a.events.now _ c.new-began.ensures _ c.in-Refused.is c.if-allowance-eq0.false)

@@ -1,0 +1,31 @@
+-- The page of a scan that was begun is admitted: it lies inside the lent bytes, and its steps can be counted.
+use native.Mathlib.Omega.{arith}
+use borrow.Author.Rules.{rules}
+use Rattle.page.specs.Page.{Admitted}
+use Rattle.scan.proofs.Wholes.{whole_admitted, whole_ran, whole_refused}
+use Rattle.scan.proofs.beginning.whole.Goals as goal
+
+admitted : (c : goal.In-Started) → let a = c.args in Admitted a.bytes.now a.at a.length a.start
+admitted c =
+    let a = c.args in
+    whole_admitted a.bytes.now a.at a.length a.start a.construct a.kind a.flags a.events.now _ c.requires _ c.begin_checked-began.ensures _ c.in-Started.is
+
+pub overflow_add-end : goal.overflow_add-end
+overflow_add-end c = let l = (admitted c).lies in omega arith
+
+pub step_bound-allowance-requires : goal.step_bound-allowance-requires
+step_bound-allowance-requires c = ((admitted c).starts, (admitted c).short)
+
+pub slice_bounds-run-end : goal.slice_bounds-run-end
+slice_bounds-run-end c = let l = (admitted c.before).lies in search (rules, l)
+
+pub returns-in-Started : goal.returns-in-Started
+returns-in-Started c =
+    let a = c.args in
+    whole_ran a.bytes.now a.at a.length a.start a.construct a.kind a.flags a.events.now _ c.requires _ c.begin_checked-began.ensures _ _ _ c.in-Started.is c.step_bound-allowance.ensures c.run.ensures
+
+pub returns-in-Refused : goal.returns-in-Refused
+returns-in-Refused c =
+    let a = c.args in
+    let k = c.not_begun.ensures in
+    rw (k.0, k.1) (whole_refused a.bytes.now a.at a.length a.start a.construct a.kind a.flags a.events.now _ c.requires _ c.begin_checked-began.ensures _ c.in-Refused.is)

@@ -1,0 +1,6 @@
+use borrow.Author.Rules.{rules}
+use Rattle.tarredlath.proofs.scans.tarredlath_words_enough.Goals as goal
+
+pub returns : goal.returns
+returns c =
+    rw (c.enough_numbers.ensures, c.words_enough.ensures)

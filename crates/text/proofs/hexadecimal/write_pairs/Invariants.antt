@@ -1,0 +1,24 @@
+-- The invariant: what is written and what is left to write make the whole.
+use Prim.Native.Nat.{◌+◌, ◌-◌, ◌*◌, ◌/◌, ◌≤◌}
+use native.Mathlib.Numerals.{add-one}
+use native.Mathlib.Omega.{arith}
+use mathlib.Core.Path.{◌≡◌, refl, sym, ◌∙◌, ap}
+use mathlib.Core.Bool.{true}
+use borrow.Author.Rules.{rules}
+use lib.ListN.{length, drop, length-set}
+use lib.Seq.{sets}
+use Rattle.text.specs.Hex.{pairs, bytes_of}
+use Rattle.text.proofs.Pairs.{first_pair, bytes_at, bytes_end}
+use Rattle.text.proofs.hexadecimal.write_pairs.Given as goal
+
+abbrev pub invariant-loop-at : goal.invariant-loop-at
+invariant-loop-at l =
+    (l.at ≤ length l.digits) ×
+    (l.at ≡ 2 * l.count) ×
+    (length l.out ≡ length l.initial.out) ×
+    (length l.digits / 2 ≤ length l.initial.out) ×
+    (pairs (drop l.at l.digits) ≡ true) ×
+    (sets l.initial.out 0 (bytes_of l.digits) ≡ sets l.out l.count (bytes_of (drop l.at l.digits)))
+
+abbrev pub decreases-loop-at : goal.decreases-loop-at
+decreases-loop-at l = length l.digits - l.at

@@ -1,0 +1,12 @@
+use Rattle.base.proofs.Choice.{picks}
+use Rattle.text.specs.Verdict.{narrow_of}
+use borrow.Author.Rules.{rules}
+use Rattle.text.proofs.verdicts.narrow.Goals as goal
+
+pub returns-then-number-gt-LARGEST : goal.returns-then-number-gt-LARGEST
+unfolding narrow_of
+returns-then-number-gt-LARGEST c = search picks depth 12
+
+pub returns : goal.returns
+unfolding narrow_of
+returns c = search picks depth 12

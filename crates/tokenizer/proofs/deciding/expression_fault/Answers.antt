@@ -1,0 +1,15 @@
+use borrow.Author.Rules.{rules}
+use Rattle.tokenizer.specs.Decision.{expression_fault}
+use Rattle.tokenizer.proofs.deciding.expression_fault.Goals as goal
+
+pub returns-in-Fine : goal.returns-in-Fine
+unfolding expression_fault
+returns-in-Fine c = rw c.in-Fine.is
+
+pub returns-in-Unfinished : goal.returns-in-Unfinished
+unfolding expression_fault
+returns-in-Unfinished c = rw c.in-Unfinished.is
+
+pub returns-in-Wrong : goal.returns-in-Wrong
+unfolding expression_fault
+returns-in-Wrong c = rw c.in-Wrong.is c.expression_place.ensures

@@ -1,0 +1,15 @@
+use Prim.Native.Nat.{ℕ, ◌-◌, ◌≤◌}
+use native.Mathlib.Omega.{arith}
+use mathlib.Core.Path.{◌≡◌, refl, sym, ◌∙◌}
+use mathlib.Core.Bool.{not}
+use borrow.Author.Rules.{rules}
+use Rattle.worker.specs.Ring.{seek}
+use Rattle.worker.specs.Place.{place_in, lowest_in}
+use Rattle.worker.proofs.Ring.{seek_here, seek_up, seek_none}
+use Rattle.worker.proofs.Worker.lowest.Given as goal
+
+abbrev pub invariant-loop-k : goal.invariant-loop-k
+invariant-loop-k l = (l.k ≤ 16) × (lowest_in l.self.places ≡ seek (λ n. not (place_in l.self.places n).taken) l.k (16 - l.k))
+
+abbrev pub decreases-loop-k : goal.decreases-loop-k
+decreases-loop-k l = 16 - l.k
