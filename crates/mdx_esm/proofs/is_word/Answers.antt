@@ -20,9 +20,9 @@ returns-then-at-start-ne6 c = sym (and_no _ _ (ne_eqb _ 6 c.if-at-start-ne6.true
 pub returns-then-has_word : goal.returns-then-has_word
 unfolding is_word
 returns-then-has_word c =
-    and_also _ _ _ (eq-eqb _ 6 c.if-at-start-ne6.false) (sym (or_yes _ _ (sym c.Has_word.ensures ∙ c.if-has_word.true)))
+    and_also _ _ _ (eq-eqb _ 6 c.if-at-start-ne6.false) (sym (or_yes _ _ (sym c.has_word.ensures ∙ c.if-has_word.true)))
 
 pub returns : goal.returns
 unfolding is_word
 returns c =
-    and_also _ _ _ (eq-eqb _ 6 c.if-at-start-ne6.false) (or_else _ _ _ (sym c.Has_word.ensures ∙ c.if-has_word.false) c.has_word-2.ensures)
+    and_also _ _ _ (eq-eqb _ 6 c.if-at-start-ne6.false) (or_else _ _ _ (sym c.has_word.ensures ∙ c.if-has_word.false) c.has_word-2.ensures)

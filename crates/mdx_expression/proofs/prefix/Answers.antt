@@ -9,7 +9,7 @@ returns-then-prefix_goes_on c = search picks depth 12
 pub returns-then-prefix_in_tab : goal.returns-then-prefix_in_tab
 returns-then-prefix_in_tab c =
     if_no _ _ _ _ _ (sym c.prefix_goes_on.ensures ∙ c.if-prefix_goes_on.false)
-    (if_yes _ _ _ _ _ (sym c.prefix_in_tab_lem.ensures ∙ c.if-prefix_in_tab.true) (rw c.taken.ensures at c.retry_with.ensures))
+    (if_yes _ _ _ _ _ (sym c.prefix_in_tab.ensures ∙ c.if-prefix_in_tab.true) (rw c.taken.ensures at c.retry_with.ensures))
 
 pub returns-else-prefix_in_tab : goal.returns-else-prefix_in_tab
 returns-else-prefix_in_tab c = search picks depth 12

@@ -2,4 +2,4 @@ use borrow.Author.Rules.{rules}
 use Rattle.mdx_jsx_name.proofs.primary_name.Goals as goal
 
 pub returns : goal.returns
-returns c = rw (← c.primary_name_ends.ensures, ← c.link_note_lem.ensures) c.in_a_name.ensures
+returns c = rw (← c.primary_name_ends.ensures, ← c.link_note.ensures) c.in_a_name.ensures

@@ -15,4 +15,4 @@ returns-then-numbers-gt-MOST_COLUMNS c = and_also _ _ _ (le-leb _ _ c.if-numbers
 
 pub returns : goal.returns
 unfolding scan_listed
-returns c = and_also _ _ _ (le-leb _ _ c.if-numbers-gt-ALL_FLAGS.false) (and_also _ _ _ (le-leb _ _ c.if-numbers-gt-MOST_COLUMNS.false) c.heard_listed_lem.ensures)
+returns c = and_also _ _ _ (le-leb _ _ c.if-numbers-gt-ALL_FLAGS.false) (and_also _ _ _ (le-leb _ _ c.if-numbers-gt-MOST_COLUMNS.false) c.heard_listed.ensures)

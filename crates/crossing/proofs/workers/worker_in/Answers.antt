@@ -12,7 +12,7 @@ loop-k-init c = (omega arith, begins _ _ 16 _ refl)
 
 pub loop-k-preserved : goal.loop-k-preserved
 loop-k-preserved c =
-    (omega arith, goes_on_lem _ _ 16 c.loop-k.k c.loop-k.places c.place_in_lem.result (omega arith) c.place_in_lem.ensures c.loop-k.invariant.1)
+    (omega arith, goes_on_lem _ _ 16 c.loop-k.k c.loop-k.places c.place_in.result (omega arith) c.place_in.ensures c.loop-k.invariant.1)
 
 pub returns : goal.returns
 unfolding worker_in

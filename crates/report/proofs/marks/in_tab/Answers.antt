@@ -11,7 +11,7 @@ unfolding if◌then◌else◌
 returns-then-passed-eq0 c =
     let a = c.args in
     rw (eq-eqb (columns_of a.tab) 0 (sym c.columns-passed.ensures ∙ c.if-passed-eq0.true))
-    (nothing_put a.out.now a.at c.in_room_lem.result c.in_room_lem.ensures.0)
+    (nothing_put a.out.now a.at c.in_room.result c.in_room.ensures.0)
 
 pub returns : goal.returns
 unfolding if◌then◌else◌

@@ -11,12 +11,12 @@ returns-then-bytes-eq0 c =
 pub returns-then-out-place : goal.returns-then-out-place
 returns-then-out-place c =
     let a = c.args in
-    let place = c.in_room_lem in
+    let place = c.in_room in
     field_no_room a.out.now a.bytes.now a.at place.result c.if-bytes-eq0.false place.ensures.0 c.if-out-place.true
 
 pub returns : goal.returns
 returns c =
     let a = c.args in
-    let place = c.in_room_lem in
+    let place = c.in_room in
     let done = c.put_digits in
     field_put a.out.now a.bytes.now a.at place.result c.if-bytes-eq0.false place.ensures.0 done.new.0 c.if-out-place.false done.ensures

@@ -8,4 +8,4 @@ returns-then-carried c = rw c.if-carried.true c.spaced.ensures.out_after
 pub returns : goal.returns
 returns c =
     let a = c.args in
-    rw c.if-carried.false (nothing_put a.out.now a.at c.in_room_lem.result c.in_room_lem.ensures.0)
+    rw c.if-carried.false (nothing_put a.out.now a.at c.in_room.result c.in_room.ensures.0)

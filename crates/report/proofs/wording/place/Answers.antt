@@ -9,4 +9,4 @@ returns-then-told c =
 pub returns : goal.returns
 returns c =
     let a = c.args in
-    rw c.if-told.false (nothing_put a.out.now a.at c.in_room_lem.result c.in_room_lem.ensures.0)
+    rw c.if-told.false (nothing_put a.out.now a.at c.in_room.result c.in_room.ensures.0)

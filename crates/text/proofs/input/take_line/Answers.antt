@@ -16,8 +16,8 @@ returns-then-mark-end c =
     at_a_line_feed a.buffer.now a.input first.result second.result found.result first.ensures.0 second.ensures.0
     found.ensures.0 c.if-mark-end.true
     in (
-      (omega (arith, c.line_at_lem.ensures.1, ordered), omega (arith, c.line_at_lem.ensures.1, first.ensures.1)),
-      c.line_at_lem.ensures.0 ∙ same,
+      (omega (arith, c.line_at.ensures.1, ordered), omega (arith, c.line_at.ensures.1, first.ensures.1)),
+      c.line_at.ensures.0 ∙ same,
     )
 
 pub returns : goal.returns

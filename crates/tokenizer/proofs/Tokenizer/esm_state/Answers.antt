@@ -36,7 +36,7 @@ returns-in-74 c = rw c.in-74.is c.blank_line.ensures
 
 pub returns-in-75 : goal.returns-in-75
 unfolding esm_decision find if◌then◌else◌
-returns-in-75 c = rw c.in-75.is c.at_end_lem.ensures
+returns-in-75 c = rw c.in-75.is c.at_end.ensures
 
 pub returns-in-76 : goal.returns-in-76
 unfolding esm_decision find if◌then◌else◌

@@ -47,7 +47,7 @@ pub returns-in-Last : goal.returns-in-Last
 returns-in-Last c = rw (c.lines_of-in-Last.ensures, c.in-Last.is)
 
 pub returns-in-Fault : goal.returns-in-Fault
-returns-in-Fault c = rw (c.lines_of-in-Fault.ensures, c.line_at_lem.ensures, c.within_end.ensures.0, c.in-Fault.is)
+returns-in-Fault c = rw (c.lines_of-in-Fault.ensures, c.line_at.ensures, c.within_end.ensures.0, c.in-Fault.is)
 
 pub returns-in-Refuse : goal.returns-in-Refuse
 returns-in-Refuse c = rw (c.lines_of-in-Refuse.ensures, c.in-Refuse.is)
