@@ -263,6 +263,7 @@ pub fn attribute_value_expression_after() -> Move
 //
 //     > | a <b c="d"/> e
 //                 ^
+#[tactic(auto, using(base::proofs::Choice::picks))]
 pub fn attribute_value_quoted_start(b: u16, quote: u16) -> Move
     ensures { result ≡ attribute.attribute_value_quoted_start b quote }
 {
