@@ -32,7 +32,7 @@ use Rattle.batch.specs.declared.turns.Run.{Run}
 use Rattle.batch.specs.Record as field
 use Rattle.batch.specs.Record.{value_in, carried, filled_of}
 use Rattle.batch.specs.Batch.{called, record_of, words_of}
-use Rattle.batch.specs.Inner.{run, check_for, open_of, known_after, after_of, turn_of, Sound}
+use Rattle.batch.specs.Inner.{check_for, open_of, known_after, after_of, turn_of, Sound}
 
 -- ---- the events that an answer carries
 

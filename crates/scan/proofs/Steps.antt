@@ -12,7 +12,7 @@ use Rattle.base.proofs.Choice.{if_no, if_is}
 use Rattle.base.specs.Byte.{tab, line_feed}
 use Rattle.base.specs.Page.{page_limit, byte_at}
 use Rattle.base.specs.State.{full}
-use Rattle.base.specs.Decide.{eat, retry, list_of, count_of}
+use Rattle.base.specs.Decide.{retry, list_of, count_of}
 use Rattle.base.specs.declared.Marks.{Marks}
 use Rattle.base.specs.declared.Marks.TheVariants.{Nothing, One, Two, Three, Four}
 use Rattle.base.specs.declared.InTab.{InTab}

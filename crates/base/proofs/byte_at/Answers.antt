@@ -1,6 +1,5 @@
 use Rattle.base.proofs.Choice.{picks}
 use Rattle.base.specs.Page.{byte_at}
-use borrow.Author.Rules.{rules}
 use Rattle.base.proofs.byte_at.Goals as goal
 
 pub returns-then-at-page : goal.returns-then-at-page

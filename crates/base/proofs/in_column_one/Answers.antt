@@ -1,5 +1,4 @@
 use Rattle.base.proofs.Choice.{picks}
-use borrow.Author.Rules.{rules}
 use Rattle.base.proofs.in_column_one.Goals as goal
 
 pub returns-then-at-eq0 : goal.returns-then-at-eq0

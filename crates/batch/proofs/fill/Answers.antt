@@ -1,6 +1,6 @@
 use Rattle.batch.proofs.Loops.{work}
 use Rattle.batch.proofs.States.{start_looking, look_closer, next_looking, start_working, work_closer, next_working, worked}
-use Rattle.std.proofs.Common.{◌≡◌, ◌∙◌, ap}
+use Rattle.std.proofs.Common.{◌∙◌, ap}
 use Rattle.batch.specs.declared.Filled.{Filled}
 use Rattle.batch.specs.Batch.{batch}
 use Rattle.batch.proofs.fill.Goals as goal

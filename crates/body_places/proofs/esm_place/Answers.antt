@@ -1,6 +1,5 @@
 use native.Mathlib.Omega.{arith}
 use mathlib.Core.Path.{sym}
-use borrow.Author.Rules.{rules}
 use Rattle.body_places.proofs.Laws.{counted, past}
 use Rattle.body_places.proofs.esm_place.Goals as goal
 

@@ -1,12 +1,10 @@
-use Prim.Native.Nat.{◌-◌, ◌≤◌}
 use native.Mathlib.Omega.{arith}
 use mathlib.Core.Path.{◌≡◌, refl, sym, ◌∙◌}
 use mathlib.Core.Bool.{true, false}
-use borrow.Author.Rules.{rules}
 use borrow.Author.Tests.{ltb-true}
 use Rattle.base.proofs.Choice.{both}
 use Rattle.base.specs.Page.{byte_at}
-use Rattle.body_places.specs.Body.{places_of, in_prefix, splits, cells_from, place_of, expression_places}
+use Rattle.body_places.specs.Body.{in_prefix, splits}
 use Rattle.body_places.proofs.Laws.{skipped, in_split, past_split, passed, here, nowhere, prefix_small, drift_small}
 use Rattle.body_places.proofs.expression_place.Goals as goal
 

@@ -2,7 +2,6 @@ use native.Mathlib.Omega.{arith}
 use Prim.Native.Nat.{ℕ, ◌≤◌}
 use mathlib.Core.Path.{◌≡◌, refl, ◌∙◌}
 use mathlib.Core.Bool.{false}
-use borrow.Author.Rules.{rules}
 use borrow.Author.Tests.{ne_eqb}
 use Rattle.base.specs.Byte.{dollar_sign, hyphen, digit0, digit9, capital_a, capital_z, underscore, small_a, small_z}
 use Rattle.base.specs.If.{among}

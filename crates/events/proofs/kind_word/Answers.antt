@@ -1,4 +1,3 @@
-use borrow.Author.Rules.{rules}
 use Rattle.events.proofs.kind_word.Goals as goal
 
 pub returns-in-Enter : goal.returns-in-Enter

@@ -1,6 +1,5 @@
 use mathlib.Core.Path.{◌∙◌}
 use mathlib.Core.List.{[], ◌∷◌}
-use borrow.Author.Rules.{rules}
 use Rattle.events.specs.Marks.{no_mark}
 use Rattle.events.proofs.Laws.{one_longer}
 use Rattle.events.proofs.mark_in.Goals as goal

@@ -1,6 +1,5 @@
 use native.Mathlib.Omega.{arith}
 use mathlib.Core.Path.{sym, ◌∙◌}
-use borrow.Author.Rules.{rules}
 use Rattle.events.proofs.Laws.{at_most_four, up_to_all, up_to_none, up_to_one, up_to_two, up_to_three, up_to_four}
 use Rattle.events.proofs.put.Goals as goal
 

@@ -1,6 +1,5 @@
 use native.Mathlib.Omega.{arith}
 use lib.ListN.{length-set}
-use borrow.Author.Rules.{rules}
 use Rattle.events.proofs.Laws.{one_written}
 use Rattle.events.proofs.put_one.Goals as goal
 

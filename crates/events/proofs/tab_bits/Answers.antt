@@ -1,5 +1,4 @@
 use native.Mathlib.Omega.{arith}
-use borrow.Author.Rules.{rules}
 use Rattle.events.proofs.tab_bits.Goals as goal
 
 pub returns-in-Outside : goal.returns-in-Outside

@@ -1,5 +1,4 @@
 use mathlib.Core.Path.{sym, ◌∙◌}
-use borrow.Author.Rules.{rules}
 use Rattle.mdx_collect.proofs.Calls.{asks, not_asked, in_page, in_scratch}
 use Rattle.mdx_collect.proofs.collect.Goals as goal
 

@@ -1,17 +1,13 @@
-use Prim.Native.Nat.{ℕ, ◌+◌, ◌-◌, ◌≤◌, ◌<◌}
 use native.Mathlib.Omega.{arith}
 use mathlib.Core.Path.{◌≡◌, refl, sym, ap, ◌∙◌}
 use mathlib.Core.Bool.{true, false}
-use mathlib.Core.List.{List}
-use lib.ListN.{length, get_or, set, length-set}
-use lib.Seq.{sets, length-sets}
-use borrow.Author.Rules.{rules}
+use lib.ListN.{get_or}
 use borrow.Author.Tests.{ltb-true}
 use Rattle.base.proofs.Choice.{both}
 use Rattle.base.specs.Page.{byte_at}
 use Rattle.body_places.proofs.Place.{byte_in}
-use Rattle.body_places.specs.Body.{bytes_of, spaces, in_prefix, splits, prefix_after, expression_cells}
-use Rattle.mdx_collect.proofs.Laws.{bytes_left, bytes_long, passed_over, split_over, counted, passed_by, put_spaces, put_one, all_put}
+use Rattle.body_places.specs.Body.{in_prefix, splits, prefix_after, expression_cells}
+use Rattle.mdx_collect.proofs.Laws.{bytes_long, passed_over, split_over, counted, passed_by, all_put}
 use Rattle.mdx_collect.proofs.Copying.{one_copied, spaces_put}
 use Rattle.mdx_collect.proofs.copy.Goals as goal
 

@@ -1,14 +1,8 @@
 use Prim.Native.Nat.{◌+◌, ◌*◌, ◌≤◌, ◌-◌}
-use native.Mathlib.Omega.{arith}
-use mathlib.Core.Path.{◌≡◌, sym, ◌∙◌}
-use mathlib.Core.Bool.{true, false}
+use mathlib.Core.Path.{◌≡◌}
 use lib.ListN.{length}
-use borrow.Author.Rules.{rules}
-use borrow.Author.Tests.{ltb-true}
-use Rattle.base.proofs.Choice.{both}
-use Rattle.base.specs.Page.{byte_at}
-use Rattle.body_places.specs.Body.{in_prefix, splits, expression_cells}
-use Rattle.mdx_collect.proofs.Laws.{bytes_left, bytes_long, passed_over, split_over, counted, all_counted}
+use Rattle.body_places.specs.Body.{expression_cells}
+use Rattle.mdx_collect.proofs.Laws.{bytes_left}
 use Rattle.mdx_collect.proofs.count.Given as goal
 
 -- what is counted and what is left to count make the whole

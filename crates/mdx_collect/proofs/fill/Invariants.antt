@@ -1,10 +1,8 @@
 use Prim.Native.Nat.{◌-◌, ◌≤◌}
-use native.Mathlib.Omega.{arith}
-use mathlib.Core.Path.{◌≡◌, refl, sym, ◌∙◌}
-use lib.ListN.{length, length-set}
+use mathlib.Core.Path.{◌≡◌}
+use lib.ListN.{length}
 use lib.Seq.{sets}
 use Rattle.body_places.specs.Body.{spaces}
-use Rattle.mdx_collect.proofs.Laws.{one_filled, all_filled}
 use Rattle.mdx_collect.proofs.fill.Given as goal
 
 -- what is filled and what is left to fill make the whole

@@ -1,4 +1,3 @@
-use borrow.Author.Rules.{rules}
 use Rattle.base.proofs.Choice.{picks}
 use Rattle.mdx_collect.proofs.is_asking.Goals as goal
 

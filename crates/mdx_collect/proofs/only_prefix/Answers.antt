@@ -1,5 +1,4 @@
 use mathlib.Core.Path.{sym, ◌∙◌}
-use borrow.Author.Rules.{rules}
 use Rattle.mdx_collect.proofs.Laws.{nothing, longer, begun, one_blank, two_blanks}
 use Rattle.mdx_collect.proofs.only_prefix.Goals as goal
 

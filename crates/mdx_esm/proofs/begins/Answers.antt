@@ -1,5 +1,4 @@
 use Rattle.base.proofs.Choice.{picks}
-use borrow.Author.Rules.{rules}
 use Rattle.mdx_esm.proofs.begins.Goals as goal
 
 pub returns-in-101 : goal.returns-in-101

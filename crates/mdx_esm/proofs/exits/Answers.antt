@@ -1,5 +1,4 @@
 use Rattle.base.proofs.Choice.{picks}
-use borrow.Author.Rules.{rules}
 use Rattle.mdx_esm.proofs.exits.Goals as goal
 
 pub returns-then-exits_behind : goal.returns-then-exits_behind

@@ -1,5 +1,4 @@
 use Rattle.base.proofs.Choice.{picks}
-use borrow.Author.Rules.{rules}
 use Rattle.mdx_esm.proofs.exits_behind.Goals as goal
 
 pub returns-then-after_line_feed : goal.returns-then-after_line_feed

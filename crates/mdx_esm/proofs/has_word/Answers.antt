@@ -1,9 +1,4 @@
-use Prim.Native.Nat.{◌+◌, ◌-◌}
-use native.Mathlib.Omega.{arith}
-use mathlib.Core.Path.{◌≡◌, refl, sym, ◌∙◌}
-use lib.ListN.{length, drop}
-use borrow.Author.Rules.{rules}
-use Rattle.mdx_esm.specs.Word.{spells}
+use mathlib.Core.Path.{refl, sym, ◌∙◌}
 use Rattle.mdx_esm.proofs.Words.{none_passed, unlike, alike, all_passed}
 use Rattle.mdx_esm.proofs.has_word.Goals as goal
 

@@ -1,10 +1,7 @@
 use Prim.Native.Nat.{◌+◌, ◌-◌}
-use native.Mathlib.Omega.{arith}
-use mathlib.Core.Path.{◌≡◌, refl, sym, ◌∙◌}
+use mathlib.Core.Path.{◌≡◌}
 use lib.ListN.{length, drop}
-use borrow.Author.Rules.{rules}
 use Rattle.mdx_esm.specs.Word.{spells}
-use Rattle.mdx_esm.proofs.Words.{none_passed, unlike, alike, all_passed}
 use Rattle.mdx_esm.proofs.has_word.Given as goal
 
 abbrev pub invariant-loop-k : goal.invariant-loop-k

@@ -1,5 +1,4 @@
 use Rattle.base.proofs.Choice.{picks}
-use borrow.Author.Rules.{rules}
 use Rattle.mdx_esm.proofs.inside.Goals as goal
 
 pub returns-then-line_ends : goal.returns-then-line_ends

@@ -1,5 +1,4 @@
 use Rattle.base.proofs.Choice.{picks}
-use borrow.Author.Rules.{rules}
 use Rattle.mdx_esm.proofs.line_start.Goals as goal
 
 pub returns-then-b-eq-END_OF_PAGE : goal.returns-then-b-eq-END_OF_PAGE

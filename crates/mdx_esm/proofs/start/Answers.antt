@@ -1,5 +1,4 @@
 use Rattle.base.proofs.Choice.{picks}
-use borrow.Author.Rules.{rules}
 use Rattle.mdx_esm.proofs.start.Goals as goal
 
 pub returns-then-begins : goal.returns-then-begins

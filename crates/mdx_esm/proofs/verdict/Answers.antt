@@ -1,4 +1,3 @@
-use borrow.Author.Rules.{rules}
 use Rattle.mdx_esm.proofs.verdict.Goals as goal
 
 pub returns-in-Fine : goal.returns-in-Fine

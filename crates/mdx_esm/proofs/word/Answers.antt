@@ -1,5 +1,4 @@
 use Rattle.base.proofs.Choice.{picks}
-use borrow.Author.Rules.{rules}
 use Rattle.mdx_esm.proofs.word.Goals as goal
 
 pub returns-then-in_word : goal.returns-then-in_word

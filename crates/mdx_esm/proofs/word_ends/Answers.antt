@@ -1,5 +1,4 @@
 use Rattle.base.proofs.Choice.{picks}
-use borrow.Author.Rules.{rules}
 use Rattle.mdx_esm.proofs.word_ends.Goals as goal
 
 pub returns-then-is_word : goal.returns-then-is_word

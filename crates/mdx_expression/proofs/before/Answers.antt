@@ -1,5 +1,4 @@
 use Rattle.base.proofs.Choice.{picks}
-use borrow.Author.Rules.{rules}
 use Rattle.mdx_expression.proofs.before.Goals as goal
 
 pub returns-then-last-eq0 : goal.returns-then-last-eq0

@@ -1,5 +1,4 @@
 use Rattle.base.proofs.Choice.{picks}
-use borrow.Author.Rules.{rules}
 use Rattle.mdx_expression.proofs.eol_after.Goals as goal
 
 pub returns-then-space_or_tab : goal.returns-then-space_or_tab

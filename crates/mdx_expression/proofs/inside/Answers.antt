@@ -1,5 +1,4 @@
 use Rattle.base.proofs.Choice.{picks}
-use borrow.Author.Rules.{rules}
 use Rattle.mdx_expression.proofs.inside.Goals as goal
 
 pub returns-then-stops : goal.returns-then-stops

@@ -1,6 +1,5 @@
 use mathlib.Core.Path.{sym, ◌∙◌}
 use Rattle.base.proofs.Choice.{if_yes, if_no, picks}
-use borrow.Author.Rules.{rules}
 use Rattle.mdx_expression.proofs.prefix.Goals as goal
 
 pub returns-then-prefix_goes_on : goal.returns-then-prefix_goes_on

@@ -1,5 +1,4 @@
 use Rattle.base.proofs.Choice.{picks}
-use borrow.Author.Rules.{rules}
 use Rattle.mdx_expression.proofs.start.Goals as goal
 
 pub returns-then-b-eq-LEFT_BRACE : goal.returns-then-b-eq-LEFT_BRACE

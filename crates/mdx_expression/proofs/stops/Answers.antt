@@ -1,5 +1,4 @@
 use Rattle.base.proofs.Choice.{picks}
-use borrow.Author.Rules.{rules}
 use Rattle.mdx_expression.proofs.stops.Goals as goal
 
 pub returns-then-b-eq-END_OF_PAGE : goal.returns-then-b-eq-END_OF_PAGE

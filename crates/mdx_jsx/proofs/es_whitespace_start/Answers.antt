@@ -1,5 +1,4 @@
 use Rattle.base.proofs.Choice.{picks}
-use borrow.Author.Rules.{rules}
 use Rattle.mdx_jsx.proofs.es_whitespace_start.Goals as goal
 
 pub returns-then-b-eq-LINE_FEED : goal.returns-then-b-eq-LINE_FEED

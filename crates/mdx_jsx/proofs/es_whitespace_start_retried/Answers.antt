@@ -1,5 +1,4 @@
 use Rattle.base.proofs.Choice.{picks}
-use borrow.Author.Rules.{rules}
 use Rattle.mdx_jsx.proofs.es_whitespace_start_retried.Goals as goal
 
 pub returns-then-whitespace_or_end : goal.returns-then-whitespace_or_end

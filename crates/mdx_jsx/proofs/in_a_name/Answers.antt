@@ -1,5 +1,4 @@
 use Rattle.base.proofs.Choice.{picks}
-use borrow.Author.Rules.{rules}
 use Rattle.mdx_jsx.proofs.in_a_name.Goals as goal
 
 pub returns-then-ends : goal.returns-then-ends

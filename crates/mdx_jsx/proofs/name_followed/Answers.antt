@@ -1,5 +1,4 @@
 use Rattle.base.proofs.Choice.{picks}
-use borrow.Author.Rules.{rules}
 use Rattle.mdx_jsx.proofs.name_followed.Goals as goal
 
 pub returns-then-tag_goes_on : goal.returns-then-tag_goes_on

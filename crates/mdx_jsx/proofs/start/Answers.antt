@@ -1,5 +1,4 @@
 use Rattle.base.proofs.Choice.{picks}
-use borrow.Author.Rules.{rules}
 use Rattle.mdx_jsx.proofs.start.Goals as goal
 
 pub returns-then-b-eq-LESS_THAN : goal.returns-then-b-eq-LESS_THAN

@@ -1,5 +1,4 @@
 use Rattle.base.proofs.Choice.{picks}
-use borrow.Author.Rules.{rules}
 use Rattle.mdx_jsx_attribute.proofs.attribute_local_name_after.Goals as goal
 
 pub returns-then-b-eq-EQUALS_SIGN : goal.returns-then-b-eq-EQUALS_SIGN

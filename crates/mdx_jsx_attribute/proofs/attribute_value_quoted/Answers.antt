@@ -1,5 +1,4 @@
 use Rattle.base.proofs.Choice.{picks}
-use borrow.Author.Rules.{rules}
 use Rattle.mdx_jsx_attribute.proofs.attribute_value_quoted.Goals as goal
 
 pub returns-then-quoted_ends : goal.returns-then-quoted_ends

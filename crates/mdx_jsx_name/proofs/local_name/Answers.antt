@@ -1,4 +1,3 @@
-use borrow.Author.Rules.{rules}
 use Rattle.mdx_jsx_name.proofs.local_name.Goals as goal
 
 pub returns : goal.returns

@@ -1,5 +1,4 @@
 use Rattle.base.proofs.Choice.{picks}
-use borrow.Author.Rules.{rules}
 use Rattle.mdx_jsx_name.proofs.local_name_before.Goals as goal
 
 pub returns-then-id_start : goal.returns-then-id_start

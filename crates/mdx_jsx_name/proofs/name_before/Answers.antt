@@ -1,5 +1,4 @@
 use Rattle.base.proofs.Choice.{picks}
-use borrow.Author.Rules.{rules}
 use Rattle.mdx_jsx_name.proofs.name_before.Goals as goal
 
 pub returns-then-b-eq-SLASH : goal.returns-then-b-eq-SLASH

@@ -1,4 +1,3 @@
-use borrow.Author.Rules.{rules}
 use Rattle.page.proofs.first_anchor.Goals as goal
 
 pub returns : goal.returns

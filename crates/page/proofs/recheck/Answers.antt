@@ -3,10 +3,9 @@ use Prim.Native.Nat.{◌+◌, ◌-◌}
 use native.Mathlib.Omega.{arith}
 use mathlib.Core.Path.{◌≡◌, ap, ◌∙◌}
 use lib.ListN.{length, take, drop, length-take, length-drop}
-use borrow.Author.Rules.{rules}
 use Rattle.page.specs.declared.Checked.TheVariants.{Good}
 use Rattle.page.specs.Line.{line_at}
-use Rattle.page.specs.Page.{page_of, Admitted}
+use Rattle.page.specs.Page.{page_of}
 use Rattle.page.proofs.Rechecked.{long_again, start_again, text_past, text_again, was_good, good_past, good_again}
 use Rattle.page.proofs.recheck.Goals as goal
 

@@ -1,7 +1,6 @@
 -- Each arm is a row of the table, by its number from 0: the byte lies in the row's first range, so that row decides.
 use native.Mathlib.Omega.{arith}
 use mathlib.Core.Path.{sym}
-use borrow.Author.Rules.{rules}
 use lib.Dec.{lit<}
 use Rattle.page.specs.Utf8.{table}
 use Rattle.page.proofs.Places.{by_number, past_at, between_at, ascii_at}

@@ -1,7 +1,6 @@
 -- Each way out says one of the three tests: a byte stands there, it is not below the range, it is not above it.
 use native.Mathlib.Omega.{arith}
 use mathlib.Core.Path.{sym}
-use borrow.Author.Rules.{rules}
 use borrow.Author.Tests.{le-ltb, lt-ltb}
 use lib.Dec.{ltb}
 use lib.ListN.{length, get_or}

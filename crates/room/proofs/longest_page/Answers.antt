@@ -1,4 +1,3 @@
-use borrow.Author.Rules.{rules}
 use Rattle.base.proofs.Choice.{picks}
 use Rattle.room.specs.Room.{longest_of}
 use Rattle.room.proofs.longest_page.Goals as goal

@@ -1,4 +1,3 @@
-use borrow.Author.Rules.{rules}
 use Rattle.base.proofs.Choice.{picks}
 use Rattle.room.specs.Room.{enough_of}
 use Rattle.room.proofs.words_enough.Goals as goal

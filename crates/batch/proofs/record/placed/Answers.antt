@@ -1,4 +1,3 @@
-use borrow.Author.Rules.{rules}
 use Rattle.batch.proofs.record.placed.Goals as goal
 
 pub returns : goal.returns

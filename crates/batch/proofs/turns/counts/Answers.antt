@@ -1,4 +1,3 @@
-use borrow.Author.Rules.{rules}
 use Rattle.base.proofs.Choice.{picks}
 use Rattle.batch.specs.Batch.{counting}
 use Rattle.batch.proofs.turns.counts.Goals as goal

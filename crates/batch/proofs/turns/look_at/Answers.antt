@@ -1,4 +1,3 @@
-use borrow.Author.Rules.{rules}
 use Rattle.base.proofs.Choice.{picks}
 use Rattle.batch.specs.Inner.{look_of}
 use Rattle.batch.proofs.turns.look_at.Goals as goal

@@ -1,4 +1,3 @@
-use borrow.Author.Rules.{rules}
 use Rattle.batch.proofs.turns.open_page.Goals as goal
 
 pub returns : goal.returns

@@ -1,6 +1,5 @@
 use native.Mathlib.Omega.{arith}
 use Rattle.base.proofs.Choice.{picks}
-use borrow.Author.Rules.{rules}
 use Rattle.events.proofs.room.words_for.Goals as goal
 
 pub returns-then-room-most : goal.returns-then-room-most

@@ -1,4 +1,3 @@
-use borrow.Author.Rules.{rules}
 use Rattle.base.proofs.Choice.{picks}
 use Rattle.mdx_collect.specs.Kind.{body_kind}
 use Rattle.mdx_collect.proofs.kind.kind_of.Goals as goal

@@ -1,4 +1,3 @@
-use borrow.Author.Rules.{rules}
 use Rattle.page.proofs.line.anchor_past.Goals as goal
 
 pub passed-line-requires : goal.passed-line-requires

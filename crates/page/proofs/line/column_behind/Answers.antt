@@ -1,5 +1,4 @@
 use Rattle.base.proofs.Choice.{picks}
-use borrow.Author.Rules.{rules}
 use Rattle.page.proofs.line.column_behind.Goals as goal
 
 pub returns-then-b-eq-TAB : goal.returns-then-b-eq-TAB

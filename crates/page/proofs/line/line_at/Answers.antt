@@ -1,7 +1,6 @@
 -- The page's first byte has the first line, so the count goes on from there.
 use native.Mathlib.Omega.{arith}
 use mathlib.Core.Path.{sym, ◌∙◌}
-use borrow.Author.Rules.{rules}
 use Rattle.page.proofs.Lines.{line_first}
 use Rattle.page.proofs.line.line_at.Goals as goal
 

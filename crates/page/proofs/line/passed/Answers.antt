@@ -1,4 +1,3 @@
-use borrow.Author.Rules.{rules}
 use borrow.Author.Tests.{ne_eqb}
 use Rattle.base.proofs.Choice.{if_no, picks}
 use Rattle.page.proofs.line.passed.Goals as goal

@@ -1,9 +1,4 @@
 -- The invariant: all that is passed is plain.
-use Prim.Native.Nat.{◌-◌}
-use lib.ListN.{length}
-use borrow.Author.Rules.{rules}
-use borrow.Author.Tests.{not-false}
-use Rattle.page.specs.Plain.{PlainTo}
 use Rattle.page.proofs.Blocks.{plain_none, plain_more}
 use Rattle.page.proofs.plain.skip_plain.Goals as goal
 

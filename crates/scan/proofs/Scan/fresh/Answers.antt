@@ -1,4 +1,3 @@
-use borrow.Author.Rules.{rules}
 use Rattle.scan.specs.Call.{fresh_in}
 use Rattle.scan.proofs.Scan.fresh.Goals as goal
 

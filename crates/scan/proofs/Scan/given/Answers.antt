@@ -1,4 +1,3 @@
-use borrow.Author.Rules.{rules}
 use Rattle.scan.specs.Call.{given_scan}
 use Rattle.scan.proofs.Scan.given.Goals as goal
 

@@ -1,8 +1,7 @@
 use native.Mathlib.Omega.{arith}
 use mathlib.Core.Path.{refl, sym, ◌∙◌}
-use borrow.Author.Rules.{rules}
 use Rattle.scan.proofs.Steps.{few_count}
-use Rattle.scan.proofs.Runs.{Going, going_rest, going_out, going_more}
+use Rattle.scan.proofs.Runs.{going_rest, going_out, going_more}
 use Rattle.scan.proofs.Glided.{going_on}
 use Rattle.scan.proofs.Nested.{nested_inside, going_nested}
 use Rattle.scan.proofs.Scan.go.Goals as goal

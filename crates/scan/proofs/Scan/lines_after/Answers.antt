@@ -1,5 +1,4 @@
 use mathlib.Core.Path.{ap₂, ◌∙◌}
-use borrow.Author.Rules.{rules}
 use Rattle.base.specs.declared.InTab.{InTab}
 use Rattle.page.specs.declared.line.Line.{Line}
 use Rattle.scan.specs.Lines.{lines_after}

@@ -1,4 +1,3 @@
-use borrow.Author.Rules.{rules}
 use Rattle.scan.specs.Gliding.{counted_on}
 use Rattle.scan.proofs.Scan.moved.Goals as goal
 

@@ -1,5 +1,4 @@
 use mathlib.Core.Path.{refl, sym, ap₂, ◌∙◌}
-use borrow.Author.Rules.{rules}
 use Rattle.base.proofs.Choice.{if_yes, if_no}
 use Rattle.scan.specs.Call.{begun_if, begin_of}
 use Rattle.scan.proofs.Scan.new.Goals as goal

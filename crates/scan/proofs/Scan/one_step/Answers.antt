@@ -1,7 +1,6 @@
 use Prim.Native.Nat.{ℕ}
 use native.Mathlib.Omega.{arith}
 use mathlib.Core.Path.{ap, ap₂, ◌∙◌}
-use borrow.Author.Rules.{rules}
 use Rattle.tokenizer.specs.Decision.{decision}
 use Rattle.events.proofs.Laws.{at_most_four}
 use Rattle.scan.specs.Scan.{choice, carried_out, moved_scan}

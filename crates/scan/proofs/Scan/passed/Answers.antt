@@ -1,4 +1,3 @@
-use borrow.Author.Rules.{rules}
 use Rattle.scan.proofs.Scan.passed.Goals as goal
 
 pub returns : goal.returns

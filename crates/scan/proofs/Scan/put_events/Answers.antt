@@ -1,6 +1,5 @@
 use native.Mathlib.Omega.{arith}
 use mathlib.Core.Path.{sym, ◌∙◌}
-use borrow.Author.Rules.{rules}
 use Rattle.events.proofs.Laws.{written_none}
 use Rattle.scan.proofs.Steps.{past_low, no_marks}
 use Rattle.scan.proofs.Scan.put_events.Goals as goal

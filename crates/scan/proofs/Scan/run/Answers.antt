@@ -1,5 +1,4 @@
 use mathlib.Core.Path.{refl, sym, ◌∙◌}
-use borrow.Author.Rules.{rules}
 use Rattle.base.proofs.Choice.{if_yes, if_no}
 use Rattle.scan.specs.Call.{run_of}
 use Rattle.scan.proofs.Ranged.{fit_of}

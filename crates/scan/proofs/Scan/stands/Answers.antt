@@ -1,5 +1,4 @@
 use mathlib.Core.Path.{◌∙◌}
-use borrow.Author.Rules.{rules}
 use borrow.Author.Tests.{le-leb, lt-leb}
 use Rattle.base.specs.If.{if◌then◌else◌}
 use Rattle.base.proofs.Choice.{if_yes, if_no}

@@ -1,5 +1,4 @@
 use mathlib.Core.Path.{refl, sym, ap, ◌∙◌}
-use borrow.Author.Rules.{rules}
 use Rattle.base.proofs.Choice.{if_yes, if_no}
 use Rattle.scan.specs.Call.{begun_if}
 use Rattle.scan.proofs.beginning.begin_checked.Goals as goal

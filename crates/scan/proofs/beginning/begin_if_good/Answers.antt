@@ -1,4 +1,3 @@
-use borrow.Author.Rules.{rules}
 use Rattle.scan.proofs.beginning.begin_if_good.Goals as goal
 
 pub returns-in-Good : goal.returns-in-Good

@@ -1,4 +1,3 @@
-use borrow.Author.Rules.{rules}
 use Rattle.scan.proofs.beginning.no_scan.Goals as goal
 
 pub returns : goal.returns

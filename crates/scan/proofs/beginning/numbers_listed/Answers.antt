@@ -1,5 +1,4 @@
 use mathlib.Core.Path.{sym}
-use borrow.Author.Rules.{rules}
 use Rattle.base.proofs.Choice.{picks}
 use Rattle.scan.proofs.beginning.numbers_listed.Goals as goal
 

@@ -1,4 +1,3 @@
-use borrow.Author.Rules.{rules}
 use borrow.Author.Tests.{eq-eqb, ne_eqb}
 use Rattle.base.specs.If.{if◌then◌else◌}
 use Rattle.scan.proofs.gliding.depth_past.Goals as goal

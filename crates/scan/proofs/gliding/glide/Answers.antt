@@ -1,5 +1,4 @@
 use native.Mathlib.Omega.{arith}
-use borrow.Author.Rules.{rules}
 use Rattle.scan.proofs.Glided.{furthest_on_page, glided}
 use Rattle.scan.proofs.gliding.glide.Goals as goal
 

@@ -1,7 +1,4 @@
-use Prim.Native.Nat.{◌-◌}
 use native.Mathlib.Omega.{arith}
-use borrow.Author.Rules.{rules}
-use Rattle.scan.specs.Gliding.{GlidesTo}
 use Rattle.scan.proofs.Glided.{gliding_none, gliding_more}
 use Rattle.scan.proofs.gliding.glide_end.Goals as goal
 

@@ -1,8 +1,5 @@
 use Prim.Native.Nat.{◌-◌}
-use native.Mathlib.Omega.{arith}
-use borrow.Author.Rules.{rules}
 use Rattle.scan.specs.Gliding.{GlidesTo}
-use Rattle.scan.proofs.Glided.{not_no, gliding_none, gliding_more}
 use Rattle.scan.proofs.gliding.glide_end.Given as goal
 
 abbrev pub invariant-loop-end : goal.invariant-loop-end

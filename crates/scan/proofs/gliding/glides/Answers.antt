@@ -1,6 +1,5 @@
 use mathlib.Core.Path.{sym, ap, ◌∙◌}
-use mathlib.Core.Bool.{true, false, true≢false}
-use borrow.Author.Rules.{rules}
+use mathlib.Core.Bool.{true≢false}
 use Rattle.scan.proofs.ShortWay.{stay, data_plain, lines, quoted, names, spaces, data_in_line, line_in_line, quoted_in_line, name_in_line, space_in_line, data_no_tab, line_no_tab, quoted_no_tab, name_no_tab, space_no_tab, data_on_page, line_on_page, quoted_on_page, name_on_page, space_on_page}
 use Rattle.scan.proofs.gliding.glides.Goals as goal
 

@@ -1,6 +1,5 @@
 use mathlib.Core.Path.{sym}
 use mathlib.Core.List.{[], ◌∷◌}
-use borrow.Author.Rules.{rules}
 use Rattle.base.proofs.Choice.{one_of, none_of}
 use Rattle.scan.proofs.gliding.may_glide.Goals as goal
 

@@ -1,5 +1,4 @@
 use Rattle.base.proofs.Choice.{picks}
-use borrow.Author.Rules.{rules}
 use Rattle.scan.proofs.lines.column_past.Goals as goal
 
 pub returns-then-column-lt-HIGHEST_COLUMN : goal.returns-then-column-lt-HIGHEST_COLUMN

@@ -1,5 +1,4 @@
 use Rattle.base.proofs.Choice.{picks}
-use borrow.Author.Rules.{rules}
 use Rattle.scan.proofs.lines.counted.Goals as goal
 
 pub returns-then-n-lt-HIGHEST : goal.returns-then-n-lt-HIGHEST

@@ -1,5 +1,4 @@
 use Rattle.base.proofs.Choice.{picks}
-use borrow.Author.Rules.{rules}
 use Rattle.scan.proofs.lines.line_next.Goals as goal
 
 pub returns-then-passes : goal.returns-then-passes

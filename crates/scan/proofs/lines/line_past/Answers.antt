@@ -1,4 +1,3 @@
-use borrow.Author.Rules.{rules}
 use borrow.Author.Tests.{eq-eqb, ne_eqb}
 use Rattle.base.proofs.Choice.{if_yes, if_no}
 use Rattle.scan.proofs.lines.line_past.Goals as goal

@@ -1,6 +1,5 @@
 use native.Mathlib.Omega.{arith}
 use mathlib.Core.Path.{sym}
-use borrow.Author.Rules.{rules}
 use Rattle.scan.proofs.Glided.{count_over, count_full, count_on}
 use Rattle.scan.proofs.stepping.count_steps.Goals as goal
 

@@ -1,4 +1,3 @@
-use borrow.Author.Rules.{rules}
 use Rattle.scan.proofs.stepping.passed_lines.Goals as goal
 
 pub returns : goal.returns

@@ -1,5 +1,4 @@
 use mathlib.Core.Path.{sym}
-use borrow.Author.Rules.{rules}
 use Rattle.base.proofs.Choice.{picks}
 use Rattle.tokenizer.specs.Ranges.{job_in_range}
 use Rattle.tokenizer.proofs.Job.in_range.Goals as goal

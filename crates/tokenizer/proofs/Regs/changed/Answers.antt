@@ -1,4 +1,3 @@
-use borrow.Author.Rules.{rules}
 use Rattle.tokenizer.proofs.Regs.changed.Goals as goal
 
 pub returns-in-Keep : goal.returns-in-Keep

@@ -1,5 +1,4 @@
 use mathlib.Core.Path.{sym, ◌∙◌}
-use borrow.Author.Rules.{rules}
 use Rattle.base.proofs.Choice.{and_no, and_also}
 use Rattle.tokenizer.specs.Ranges.{regs_in_range}
 use Rattle.tokenizer.proofs.Regs.in_range.Goals as goal

@@ -1,5 +1,4 @@
 use mathlib.Core.Path.{◌∙◌}
-use borrow.Author.Rules.{rules}
 use Rattle.base.specs.If.{if◌then◌else◌}
 use Rattle.base.specs.Table.{find}
 use Rattle.base.proofs.Tables.{not_found}

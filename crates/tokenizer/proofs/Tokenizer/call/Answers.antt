@@ -1,4 +1,3 @@
-use borrow.Author.Rules.{rules}
 use Rattle.base.proofs.Choice.{picks}
 use Rattle.tokenizer.specs.Decision.{decision}
 use Rattle.tokenizer.proofs.Tokenizer.call.Goals as goal

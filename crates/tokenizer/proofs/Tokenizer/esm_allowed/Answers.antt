@@ -1,4 +1,3 @@
-use borrow.Author.Rules.{rules}
 use Rattle.tokenizer.proofs.Tokenizer.esm_allowed.Goals as goal
 
 pub returns-then-self : goal.returns-then-self

@@ -1,4 +1,3 @@
-use borrow.Author.Rules.{rules}
 use Rattle.tokenizer.specs.Moved.{moved}
 use Rattle.tokenizer.proofs.Tokenizer.moved.Goals as goal
 

@@ -1,5 +1,4 @@
 use native.Mathlib.Omega.{arith}
-use borrow.Author.Rules.{rules}
 use Rattle.base.proofs.Choice.{if_yes, if_no}
 use Rattle.base.proofs.Ranges.{is_within, below, above}
 use Rattle.tokenizer.specs.Decision.{state_decision}
@@ -22,7 +21,7 @@ pub returns-in_default : goal.returns-in_default
 unfolding state_decision
 returns-in_default c =
     let n = c.args.self.state in
-    elim c.in_default.branch
-    [ in_default-via-then-name-lt32 w ↦ if_no _ _ _ _ _ (below 32 37 n (omega arith)) (if_no _ _ _ _ _ (below 38 67 n (omega arith)) c.esm_state.ensures)
-    | in_default-via-else-name-lt32+else-name-lt38+else-name-lt68 w ↦ if_no _ _ _ _ _ (above 32 37 n (omega arith)) (if_no _ _ _ _ _ (above 38 67 n (omega arith)) c.esm_state.ensures)
+    elim c.in_default.branch [
+      | in_default-via-then-name-lt32 w ↦ if_no _ _ _ _ _ (below 32 37 n (omega arith)) (if_no _ _ _ _ _ (below 38 67 n (omega arith)) c.esm_state.ensures)
+      | in_default-via-else-name-lt32+else-name-lt38+else-name-lt68 w ↦ if_no _ _ _ _ _ (above 32 37 n (omega arith)) (if_no _ _ _ _ _ (above 38 67 n (omega arith)) c.esm_state.ensures)
     ]

@@ -1,4 +1,3 @@
-use borrow.Author.Rules.{rules}
 use Rattle.tokenizer.specs.Decision.{esm_fault}
 use Rattle.tokenizer.proofs.deciding.esm_fault.Goals as goal
 

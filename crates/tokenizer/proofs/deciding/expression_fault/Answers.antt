@@ -1,4 +1,3 @@
-use borrow.Author.Rules.{rules}
 use Rattle.tokenizer.specs.Decision.{expression_fault}
 use Rattle.tokenizer.proofs.deciding.expression_fault.Goals as goal
 

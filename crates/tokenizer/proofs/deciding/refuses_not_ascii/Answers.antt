@@ -1,5 +1,4 @@
 use Rattle.base.proofs.Choice.{picks}
-use borrow.Author.Rules.{rules}
 use Rattle.tokenizer.proofs.deciding.refuses_not_ascii.Goals as goal
 
 pub returns-then-not_ascii : goal.returns-then-not_ascii

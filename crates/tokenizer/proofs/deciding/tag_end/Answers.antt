@@ -1,4 +1,3 @@
-use borrow.Author.Rules.{rules}
 use borrow.Author.Tests.{eq-eqb, ne_eqb}
 use Rattle.base.specs.If.{if◌then◌else◌}
 use Rattle.tokenizer.proofs.deciding.tag_end.Goals as goal

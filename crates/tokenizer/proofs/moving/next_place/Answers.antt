@@ -1,5 +1,4 @@
 use Rattle.base.proofs.Choice.{picks}
-use borrow.Author.Rules.{rules}
 use Rattle.tokenizer.proofs.moving.next_place.Goals as goal
 
 pub returns-then-at-length : goal.returns-then-at-length

@@ -1,5 +1,4 @@
 use Rattle.base.proofs.Choice.{picks}
-use borrow.Author.Rules.{rules}
 use Rattle.tokenizer.proofs.moving.one_deeper.Goals as goal
 
 pub returns-then-depth-lt-MOST_BRACES : goal.returns-then-depth-lt-MOST_BRACES

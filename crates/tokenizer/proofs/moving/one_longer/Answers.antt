@@ -1,5 +1,4 @@
 use Rattle.base.proofs.Choice.{picks}
-use borrow.Author.Rules.{rules}
 use Rattle.tokenizer.proofs.moving.one_longer.Goals as goal
 
 pub returns-then-prefix-lt-LONGEST_PREFIX : goal.returns-then-prefix-lt-LONGEST_PREFIX

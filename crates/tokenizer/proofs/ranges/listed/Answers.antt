@@ -1,5 +1,4 @@
 use mathlib.Core.Path.{sym}
-use borrow.Author.Rules.{rules}
 use Rattle.base.proofs.Choice.{picks}
 use Rattle.tokenizer.specs.Ranges.{listed}
 use Rattle.tokenizer.proofs.ranges.listed.Goals as goal

@@ -1,4 +1,3 @@
-use borrow.Author.Rules.{rules}
 use Rattle.tokenizer.specs.Ranges.{verdict_in_range}
 use Rattle.tokenizer.proofs.ranges.verdict_in_range.Goals as goal
 

@@ -1,9 +1,7 @@
 use mathlib.Core.Path.{sym, ap, ◌∙◌}
-use borrow.Author.Rules.{rules}
 use Prim.Native.Nat.{ℕ}
-use Rattle.base.proofs.Choice.{not_yes}
 use Rattle.scan.specs.Call.{begin_of}
-use Rattle.worker.proofs.Laws.{not_no, admit_unlisted, admit_forged, admit_full, admit_placed}
+use Rattle.worker.proofs.Laws.{admit_unlisted, admit_forged, admit_full, admit_placed}
 use Rattle.worker.proofs.Worker.admit.Goals as goal
 
 pub returns-then-not-numbers_listed : goal.returns-then-not-numbers_listed

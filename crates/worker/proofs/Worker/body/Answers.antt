@@ -1,11 +1,9 @@
 use Prim.Native.Nat.{◌+◌, ◌-◌}
 use native.Mathlib.Omega.{arith}
 use mathlib.Core.Path.{sym, ◌∙◌}
-use borrow.Author.Rules.{rules}
 use lib.ListN.{length}
-use Rattle.base.proofs.Choice.{not_yes}
 use Rattle.worker.specs.Place.{place_in}
-use Rattle.worker.proofs.Laws.{not_no, page_place, page_lies, body_none, body_read}
+use Rattle.worker.proofs.Laws.{page_place, page_lies, body_none, body_read}
 use Rattle.worker.proofs.Worker.body.Goals as goal
 
 pub returns-then-not-holds_page : goal.returns-then-not-holds_page

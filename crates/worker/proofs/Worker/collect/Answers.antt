@@ -1,14 +1,12 @@
 use native.Mathlib.Omega.{arith}
 use mathlib.Core.Path.{sym, ap, ap₂, ◌∙◌}
 use mathlib.Core.List.{[]}
-use borrow.Author.Rules.{rules}
-use Rattle.base.proofs.Choice.{not_yes}
 use Rattle.scan.specs.Answer.{Said}
 use Rattle.worker.specs.declared.Place.{Place}
 use Rattle.worker.specs.declared.Worker.{Worker}
 use Rattle.worker.specs.Place.{stored}
 use Rattle.worker.specs.Reply.{left}
-use Rattle.worker.proofs.Laws.{not_no, held, collect_none, collect_unfinished, collect_gives, asked_is}
+use Rattle.worker.proofs.Laws.{held, collect_none, collect_unfinished, collect_gives, asked_is}
 use Rattle.worker.proofs.Worker.collect.Goals as goal
 
 pub returns-then-not-holds : goal.returns-then-not-holds

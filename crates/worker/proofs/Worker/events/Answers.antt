@@ -1,6 +1,5 @@
 use native.Mathlib.Omega.{arith}
 use mathlib.Core.Path.{sym, ◌∙◌}
-use borrow.Author.Rules.{rules}
 use Rattle.worker.proofs.Laws.{held, events_held, events_none}
 use Rattle.worker.proofs.Worker.events.Goals as goal
 

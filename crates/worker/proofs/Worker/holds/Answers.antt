@@ -1,9 +1,8 @@
 use mathlib.Core.Path.{sym, ap, ◌∙◌}
 use Prim.Native.Nat.{ℕ}
-use borrow.Author.Rules.{rules}
-use Rattle.base.proofs.Choice.{not_yes, and_no, and_also}
+use Rattle.base.proofs.Choice.{and_no, and_also}
 use Rattle.worker.specs.Place.{place_in, place_in_range}
-use Rattle.worker.proofs.Laws.{not_no, holds_far, holds_forged, holds_by}
+use Rattle.worker.proofs.Laws.{holds_far, holds_forged, holds_by}
 use Rattle.worker.proofs.Worker.holds.Goals as goal
 
 pub returns-then-i-ge-PLACES : goal.returns-then-i-ge-PLACES

@@ -1,6 +1,5 @@
 use native.Mathlib.Omega.{arith}
 use mathlib.Core.Path.{sym, ◌∙◌}
-use borrow.Author.Rules.{rules}
 use Rattle.worker.proofs.Laws.{held, page_none, page_by}
 use Rattle.worker.proofs.Worker.holds_page.Goals as goal
 

@@ -1,5 +1,4 @@
 use mathlib.Core.Path.{◌∙◌}
-use borrow.Author.Rules.{rules}
 use Rattle.worker.proofs.Laws.{range_of}
 use Rattle.worker.proofs.Worker.in_range.Goals as goal
 

@@ -1,10 +1,9 @@
-use Prim.Native.Nat.{ℕ, ◌-◌, ◌≤◌}
+use Prim.Native.Nat.{ℕ, ◌-◌}
 use native.Mathlib.Omega.{arith}
-use mathlib.Core.Path.{◌≡◌, refl, sym, ◌∙◌}
+use mathlib.Core.Path.{refl, sym, ◌∙◌}
 use mathlib.Core.Bool.{not}
 use borrow.Author.Rules.{rules}
-use Rattle.worker.specs.Ring.{seek}
-use Rattle.worker.specs.Place.{place_in, lowest_in}
+use Rattle.worker.specs.Place.{place_in}
 use Rattle.worker.proofs.Ring.{seek_here, seek_up, seek_none}
 use Rattle.worker.proofs.Worker.lowest.Goals as goal
 

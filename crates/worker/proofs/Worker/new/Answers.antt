@@ -1,6 +1,5 @@
 use mathlib.Core.Path.{sym, ap, ◌∙◌}
 use lib.ListN.{replicate}
-use borrow.Author.Rules.{rules}
 use Rattle.events.specs.Words.{room_in}
 use Rattle.room.specs.Room.{longest_of}
 use Rattle.worker.specs.declared.Place.{Place}

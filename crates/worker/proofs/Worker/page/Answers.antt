@@ -1,6 +1,5 @@
 use native.Mathlib.Omega.{arith}
 use mathlib.Core.Path.{sym, ◌∙◌}
-use borrow.Author.Rules.{rules}
 use lib.ListN.{length}
 use Rattle.worker.proofs.Laws.{page_place, piece_held, piece_none}
 use Rattle.worker.proofs.Worker.page.Goals as goal

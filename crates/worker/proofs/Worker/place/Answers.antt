@@ -1,4 +1,3 @@
-use borrow.Author.Rules.{rules}
 use Rattle.worker.proofs.Worker.place.Goals as goal
 
 pub returns-in-Started : goal.returns-in-Started

@@ -1,5 +1,4 @@
 use native.Mathlib.Omega.{arith}
-use borrow.Author.Rules.{rules}
 use Rattle.worker.proofs.Laws.{part_from, start_is, share_far, share_length, share_near}
 use Rattle.worker.proofs.Worker.share.Goals as goal
 

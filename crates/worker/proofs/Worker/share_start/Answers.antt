@@ -1,5 +1,4 @@
 use native.Mathlib.Omega.{arith}
-use borrow.Author.Rules.{rules}
 use Rattle.worker.proofs.Laws.{part_fits, start_far, start_near}
 use Rattle.worker.proofs.Worker.share_start.Goals as goal
 

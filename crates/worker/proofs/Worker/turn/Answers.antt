@@ -1,14 +1,12 @@
-use Prim.Native.Nat.{◌+◌, ◌*◌, ◌≤◌, ◌<◌}
 use native.Mathlib.Omega.{arith}
-use mathlib.Core.Path.{◌≡◌, refl, sym, ◌∙◌}
-use mathlib.Core.Bool.{true}
+use mathlib.Core.Path.{refl, sym, ◌∙◌}
 use lib.ListN.{length}
 use borrow.Author.Rules.{rules}
 use Rattle.base.proofs.Choice.{both}
-use Rattle.worker.specs.Place.{place_in, running, next_in, worker_in_range}
+use Rattle.worker.specs.Place.{place_in}
 use Rattle.worker.specs.Worker.{lies_in}
 use Rattle.worker.proofs.Laws.{in_ring, lies, part_fits, turn_refused, turn_buffer, turn_range, turn_idle, turn_unready, turn_served, served_by}
-use Rattle.worker.proofs.Ring.{Search, on, search_here, search_on, search_end}
+use Rattle.worker.proofs.Ring.{on, search_here, search_on, search_end}
 use Rattle.worker.proofs.Worker.turn.Goals as goal
 
 pub overflow_add-j : goal.overflow_add-j

@@ -1,12 +1,10 @@
 use native.Mathlib.Omega.{arith}
 use mathlib.Core.Path.{sym, ap, ◌∙◌}
 use mathlib.Core.List.{[]}
-use borrow.Author.Rules.{rules}
-use Rattle.base.proofs.Choice.{not_yes}
 use Rattle.scan.specs.Answer.{said_by}
 use Rattle.worker.specs.declared.Worker.{Worker}
 use Rattle.worker.specs.Reply.{left}
-use Rattle.worker.proofs.Laws.{not_no, held, verdict_none, verdict_given}
+use Rattle.worker.proofs.Laws.{held, verdict_none, verdict_given}
 use Rattle.worker.proofs.Worker.verdict.Goals as goal
 
 pub returns-then-not-holds : goal.returns-then-not-holds

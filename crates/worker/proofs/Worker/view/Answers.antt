@@ -1,6 +1,5 @@
 use Prim.Native.Nat.{ℕ}
 use mathlib.Core.Path.{sym, ap, ◌∙◌}
-use borrow.Author.Rules.{rules}
 use Rattle.base.proofs.Choice.{not_yes}
 use Rattle.worker.specs.Place.{place_in, place_in_range}
 use Rattle.worker.specs.View.{seen_of}

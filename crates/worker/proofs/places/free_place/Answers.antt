@@ -1,4 +1,3 @@
-use borrow.Author.Rules.{rules}
 use Rattle.worker.proofs.places.free_place.Goals as goal
 
 pub returns : goal.returns

@@ -1,4 +1,3 @@
-use borrow.Author.Rules.{rules}
 use Rattle.worker.proofs.reading.body_reply.Goals as goal
 
 pub returns-in-InPage : goal.returns-in-InPage

@@ -1,5 +1,4 @@
 use mathlib.Core.Path.{sym, ◌∙◌}
-use borrow.Author.Rules.{rules}
 use Rattle.base.proofs.Choice.{and_no, and_also}
 use Rattle.worker.proofs.turning.is_ready.Goals as goal
 

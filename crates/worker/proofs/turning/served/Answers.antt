@@ -1,4 +1,3 @@
-use borrow.Author.Rules.{rules}
 use Rattle.worker.proofs.Laws.{turned_by}
 use Rattle.worker.proofs.turning.served.Goals as goal
 

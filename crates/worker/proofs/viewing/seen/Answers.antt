@@ -1,4 +1,3 @@
-use borrow.Author.Rules.{rules}
 use Rattle.worker.proofs.viewing.seen.Goals as goal
 
 pub returns : goal.returns

@@ -1,4 +1,3 @@
-use borrow.Author.Rules.{rules}
 use Rattle.scan.proofs.lines.Lines.after.Goals as goal
 
 pub within_end-requires : goal.within_end-requires

@@ -1,5 +1,4 @@
 use mathlib.Core.Path.{sym, ◌∙◌}
-use borrow.Author.Rules.{rules}
 use Rattle.base.proofs.Choice.{and_no, and_also}
 use Rattle.scan.specs.Lines.{lines_in_range}
 use Rattle.scan.proofs.lines.Lines.in_range.Goals as goal
