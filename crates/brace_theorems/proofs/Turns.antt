@@ -58,9 +58,9 @@ module _ (page : List ℕ) (t : Tokenizer) (held : Held page t) where
         (λ e. left_alone page t held (told row.0 false (not_yes (inside row.0) p.0) e) row.1 (a.0 e), alone rows p.1 a.1)
 
     -- no state of an expression refuses a byte before it runs
-    not_ascii : refuses_not_ascii t.state b ≡ true → Turn page t (retry state.not_ascii Nothing)
+    not_ascii_lem : refuses_not_ascii t.state b ≡ true → Turn page t (retry state.not_ascii Nothing)
     unfolding within among
-    not_ascii r =
+    not_ascii_lem r =
         let w = within_is state.mdx_jsx_name_before state.mdx_jsx_es_whitespace_inside_retried t.state (both (not_ascii b) (takes_ascii t.state) r).1 in
         left_alone page t held (above state.mdx_expression_before state.mdx_expression_prefix t.state (omega (arith, w.0))) (retry state.not_ascii Nothing) (aside refl refl refl refl)
 
@@ -75,5 +75,5 @@ module _ (page : List ℕ) (t : Tokenizer) (held : Held page t) where
     pub turns : of_tags t.state ≡ true → Turn page t (decision page t b)
     unfolding decision
     turns l =
-        if_is Move (Turn page t) (refuses_not_ascii t.state b) _ _ not_ascii
+        if_is Move (Turn page t) (refuses_not_ascii t.state b) _ _ not_ascii_lem
         (λ r. tag_state_decides (Turn page t) page t b l expression_turns tags_alone attributes_alone)

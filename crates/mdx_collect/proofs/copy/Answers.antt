@@ -12,15 +12,8 @@ use Rattle.base.specs.Page.{byte_at}
 use Rattle.body_places.proofs.Place.{byte_in}
 use Rattle.body_places.specs.Body.{bytes_of, spaces, in_prefix, splits, prefix_after, expression_cells}
 use Rattle.mdx_collect.proofs.Laws.{bytes_left, bytes_long, passed_over, split_over, counted, passed_by, put_spaces, put_one, all_put}
+use Rattle.mdx_collect.proofs.Copying.{one_copied, spaces_put}
 use Rattle.mdx_collect.proofs.copy.Goals as goal
-
--- what is copied and what is left to copy make the whole, and what is left fits
-abbrev Kept : List ℕ → ℕ → ℕ → List ℕ → List ℕ → ℕ → ℕ → ℕ → Type 0
-Kept page from to scratch₀ scratch at left n =
-    (to ≤ length page) ×
-    (length scratch ≡ length scratch₀) ×
-    (n + length (bytes_left page left at to) ≤ length scratch) ×
-    (sets scratch₀ 0 (bytes_of (expression_cells page from to)) ≡ sets scratch n (bytes_left page left at to))
 
 pub loop-at-init : goal.loop-at-init
 loop-at-init c =
@@ -63,7 +56,7 @@ loop-at-preserved-then-splits c =
     let page = a.page.now in
     let e : in_prefix (byte_at page l.at) l.left ≡ false = rw c.byte_at-b.ensures at (sym c.in_prefix.ensures ∙ c.if-in_prefix.false) in
     let f : splits (byte_at page l.at) l.left ≡ true = rw c.byte_at-b.ensures at (sym c.splits.ensures ∙ c.if-splits.true) in
-    spaces-put page a.from a.end a.scratch.now l.scratch l.at l.left l.n l.invariant c.loop-at-test.true e c.spaces.result _ _ f c.spaces.ensures refl c.fill.ensures
+    spaces_put page a.from a.end a.scratch.now l.scratch l.at l.left l.n l.invariant c.loop-at-test.true e c.spaces.result _ _ f c.spaces.ensures refl c.fill.ensures
 
 -- any other byte
 pub bounds-scratch-n : goal.bounds-scratch-n
@@ -82,7 +75,7 @@ loop-at-preserved c =
     let e : in_prefix (byte_at page l.at) l.left ≡ false = rw c.byte_at-b.ensures at (sym c.in_prefix.ensures ∙ c.if-in_prefix.false) in
     let f : splits (byte_at page l.at) l.left ≡ false = rw c.byte_at-b.ensures at (sym c.splits.ensures ∙ c.if-splits.false) in
     let b = byte_in page l.at (omega arith) in
-    one-copied page a.from a.end a.scratch.now l.scratch l.at l.left l.n l.invariant c.loop-at-test.true e (get_or page l.at 0) c.prefix_after-left.result
+    one_copied page a.from a.end a.scratch.now l.scratch l.at l.left l.n l.invariant c.loop-at-test.true e (get_or page l.at 0) c.prefix_after-left.result
     f b (c.prefix_after-left.ensures ∙ ap prefix_after c.byte_at-b.ensures)
 
 pub shape_of-scratch : goal.shape_of-scratch

@@ -10,27 +10,21 @@ use Rattle.page.specs.Page.{page_of, Admitted}
 use Rattle.page.proofs.Rechecked.{long_again, start_again, text_past, text_again, was_good, good_past, good_again}
 use Rattle.page.proofs.recheck.Goals as goal
 
--- in the arm of a good page: the line that is known, and where the page lies
-good-before : (c : goal.In-Good) → let a = c.args in (c.in-Good.line ≡ line_at (page_of a.bytes.now a.at a.length) a.from) × Admitted a.bytes.now a.at a.length a.from
-good-before c =
-    let a = c.args in
-    was_good a.bytes.now a.at a.length a.from a.start _ c.requires.0 _ c.in-Good.is
-
 pub returns-then-length-start : goal.returns-then-length-start
 returns-then-length-start c =
     let a = c.args in
     good_past a.bytes.now a.at a.length a.from a.start _ c.requires.0 _ c.in-Good.is c.if-length-start.true
 
 pub overflow_add-end : goal.overflow_add-end
-overflow_add-end c = let l = (good-before c.before).1.lies in omega arith
+overflow_add-end c = let l = (was_good c.args.bytes.now c.args.at c.args.length c.args.from c.args.start _ c.requires.0 _ c.in-Good.is).1.lies in omega arith
 
 pub slice_bounds-line_by-end : goal.slice_bounds-line_by-end
-slice_bounds-line_by-end c = (good-before c.before).1.lies
+slice_bounds-line_by-end c = (was_good c.args.bytes.now c.args.at c.args.length c.args.from c.args.start _ c.requires.0 _ c.in-Good.is).1.lies
 
 pub line_by-requires : goal.line_by-requires
 line_by-requires c =
     let a = c.args in
-    let w = good-before c.before.before in
+    let w = was_good c.args.bytes.now c.args.at c.args.length c.args.from c.args.start _ c.requires.0 _ c.in-Good.is in
     let whole : a.at + a.length - a.at ≡ a.length = omega arith in
     let long : length (take (a.at + a.length - a.at) (drop a.at a.bytes.now)) ≡ a.length = simp (length-take, length-drop) (omega (arith, w.1.lies)) in
     (omega (arith, long, w.1.short), omega (arith, long, c.if-length-start.false), w.0 ∙ rw whole)

@@ -11,4 +11,4 @@ pub loop-at-init : goal.loop-at-init
 loop-at-init c = plain_none _ _ c.requires.0
 
 pub loop-at-preserved : goal.loop-at-preserved
-loop-at-preserved c = plain_more _ _ _ _ c.loop-at.invariant (c.plain_block.ensures (not-false _ c.if-not-plain_block.false))
+loop-at-preserved c = plain_more _ _ _ _ c.loop-at.invariant (c.plain_block.ensures c.if-not-plain_block.false)

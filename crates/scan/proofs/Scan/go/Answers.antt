@@ -14,7 +14,9 @@ pub shape_of-words-then-name-lt-FIRST_RUNNING : goal.shape_of-words-then-name-lt
 shape_of-words-then-name-lt-FIRST_RUNNING c = c.loop-left.invariant.same
 
 pub returns-then-name-lt-FIRST_RUNNING : goal.returns-then-name-lt-FIRST_RUNNING
-returns-then-name-lt-FIRST_RUNNING c = going_rest c.loop-left.invariant c.if-name-lt-FIRST_RUNNING.true
+returns-then-name-lt-FIRST_RUNNING c =
+    let rests = going_rest c.loop-left.invariant c.if-name-lt-FIRST_RUNNING.true in
+    record { state = rests.0; written = rests.1 }
 
 -- the short way
 pub glide-k-requires : goal.glide-k-requires
@@ -58,4 +60,6 @@ pub shape_of-words : goal.shape_of-words
 shape_of-words c = c.loop-left.invariant.same
 
 pub returns : goal.returns
-returns c = going_out c.loop-left.invariant c.loop-left-test.false
+returns c =
+    let out = going_out c.loop-left.invariant c.loop-left-test.false in
+    record { state = out.0; written = out.1 }

@@ -2,4 +2,4 @@ use borrow.Author.Rules.{rules}
 use Rattle.scan.proofs.Scan.passed.Goals as goal
 
 pub returns : goal.returns
-returns c = rw (c.Passed_lines.ensures, c.count_steps-steps.ensures, c.step_bound.ensures)
+returns c = rw (c.passed_lines-lines.ensures, c.count_steps-steps.ensures, c.step_bound.ensures)

@@ -1,23 +1,19 @@
 -- The page of a scan that was begun is admitted: it lies inside the lent bytes, and its steps can be counted.
 use native.Mathlib.Omega.{arith}
 use borrow.Author.Rules.{rules}
-use Rattle.page.specs.Page.{Admitted}
 use Rattle.scan.proofs.Wholes.{whole_admitted, whole_ran, whole_refused}
 use Rattle.scan.proofs.beginning.whole.Goals as goal
 
-admitted : (c : goal.In-Started) → let a = c.args in Admitted a.bytes.now a.at a.length a.start
-admitted c =
-    let a = c.args in
-    whole_admitted a.bytes.now a.at a.length a.start a.construct a.kind a.flags a.events.now _ c.requires _ c.begin_checked-began.ensures _ c.in-Started.is
-
 pub overflow_add-end : goal.overflow_add-end
-overflow_add-end c = let l = (admitted c).lies in omega arith
+overflow_add-end c = let l = (whole_admitted c.args.bytes.now c.args.at c.args.length c.args.start c.args.construct c.args.kind c.args.flags c.args.events.now _ c.requires _ c.begin_checked-began.ensures _ c.in-Started.is).lies in omega arith
 
 pub step_bound-allowance-requires : goal.step_bound-allowance-requires
-step_bound-allowance-requires c = ((admitted c).starts, (admitted c).short)
+step_bound-allowance-requires c =
+    let admitted = whole_admitted c.args.bytes.now c.args.at c.args.length c.args.start c.args.construct c.args.kind c.args.flags c.args.events.now _ c.requires _ c.begin_checked-began.ensures _ c.in-Started.is in
+    (admitted.starts, admitted.short)
 
 pub slice_bounds-run-end : goal.slice_bounds-run-end
-slice_bounds-run-end c = let l = (admitted c.before).lies in search (rules, l)
+slice_bounds-run-end c = let l = (whole_admitted c.args.bytes.now c.args.at c.args.length c.args.start c.args.construct c.args.kind c.args.flags c.args.events.now _ c.requires _ c.begin_checked-began.ensures _ c.in-Started.is).lies in search (rules, l)
 
 pub returns-in-Started : goal.returns-in-Started
 returns-in-Started c =

@@ -11,25 +11,8 @@ use Rattle.worker.proofs.Laws.{in_ring, lies, part_fits, turn_refused, turn_buff
 use Rattle.worker.proofs.Ring.{Search, on, search_here, search_on, search_end}
 use Rattle.worker.proofs.Worker.turn.Goals as goal
 
--- what the first test tells
-buffer : (c : goal.Then-can_turn) → length c.args.events.now ≡ c.args.self.words
-buffer c = let a = c.args in turn_buffer a.bytes.now a.self a.events.now (sym c.can_turn.ensures ∙ c.if-can_turn.true)
-
-range : (c : goal.Then-can_turn) → worker_in_range c.args.self ≡ true
-range c = let a = c.args in turn_range a.bytes.now a.self a.events.now (sym c.can_turn.ensures ∙ c.if-can_turn.true)
-
--- what the search found
-next : (c : goal.After-loop-unseen) → c.loop-unseen.found ≡ next_in c.args.self.places c.args.self.last
-next c = search_end _ _ _ _ _ c.loop-unseen.invariant.2 (omega arith)
-
--- the share of the place that is served
-share_fits : (c : goal.Then-is_ready) → c.loop-unseen.found * c.share_of-share.result + c.share_of-share.result ≤ length c.args.events.now
-share_fits c =
-    let a = c.args in
-    omega (arith, part_fits c.loop-unseen.found a.self.words c.share_of-share.result c.if-found-ge-PLACES.false c.share_of-share.ensures, buffer c.before.before.before.before.before.before.before)
-
 pub overflow_add-j : goal.overflow_add-j
-overflow_add-j c = omega (arith, in_ring c.args.self (range c))
+overflow_add-j c = omega (arith, in_ring c.args.self (turn_range c.args.bytes.now c.args.self c.args.events.now (sym c.can_turn.ensures ∙ c.if-can_turn.true)))
 
 pub loop-unseen-init : goal.loop-unseen-init
 loop-unseen-init c = (omega arith, omega arith, on refl refl)
@@ -41,16 +24,16 @@ pub loop-unseen-preserved : goal.loop-unseen-preserved
 loop-unseen-preserved c = (search rules, search rules, search_on _ _ _ _ _ c.loop-unseen.invariant.2 c.loop-unseen-test.true (sym c.is_running.ensures ∙ c.if-is_running.false))
 
 pub overflow_mul-low : goal.overflow_mul-low
-overflow_mul-low c = omega (arith, share_fits c, c.well_formed.1.1)
+overflow_mul-low c = omega (arith, part_fits c.loop-unseen.found c.args.self.words c.share_of-share.result c.if-found-ge-PLACES.false c.share_of-share.ensures, turn_buffer c.args.bytes.now c.args.self c.args.events.now (sym c.can_turn.ensures ∙ c.if-can_turn.true), c.well_formed.1.1)
 
 pub overflow_add-high : goal.overflow_add-high
-overflow_add-high c = omega (arith, share_fits c, c.well_formed.1.1)
+overflow_add-high c = omega (arith, part_fits c.loop-unseen.found c.args.self.words c.share_of-share.result c.if-found-ge-PLACES.false c.share_of-share.ensures, turn_buffer c.args.bytes.now c.args.self c.args.events.now (sym c.can_turn.ensures ∙ c.if-can_turn.true), c.well_formed.1.1)
 
 pub offset_bounds-events-low : goal.offset_bounds-events-low
-offset_bounds-events-low c = omega (arith, share_fits c.before, c.well_formed.1.1)
+offset_bounds-events-low c = omega (arith, part_fits c.loop-unseen.found c.args.self.words c.share_of-share.result c.if-found-ge-PLACES.false c.share_of-share.ensures, turn_buffer c.args.bytes.now c.args.self c.args.events.now (sym c.can_turn.ensures ∙ c.if-can_turn.true), c.well_formed.1.1)
 
 pub slice_bounds-served-end : goal.slice_bounds-served-end
-slice_bounds-served-end c = omega (arith, share_fits c.before)
+slice_bounds-served-end c = omega (arith, part_fits c.loop-unseen.found c.args.self.words c.share_of-share.result c.if-found-ge-PLACES.false c.share_of-share.ensures, turn_buffer c.args.bytes.now c.args.self c.args.events.now (sym c.can_turn.ensures ∙ c.if-can_turn.true))
 
 pub served-p-requires : goal.served-p-requires
 served-p-requires c =
@@ -61,7 +44,7 @@ served-p-requires c =
 pub returns-then-found-ge-PLACES : goal.returns-then-found-ge-PLACES
 returns-then-found-ge-PLACES c =
     let a = c.args in
-    turn_idle a.bytes.now a.self a.events.now (buffer c.before.before.before) (range c.before.before.before) c.loop-unseen.found (next c.before) c.if-found-ge-PLACES.true
+    turn_idle a.bytes.now a.self a.events.now (turn_buffer c.args.bytes.now c.args.self c.args.events.now (sym c.can_turn.ensures ∙ c.if-can_turn.true)) (turn_range c.args.bytes.now c.args.self c.args.events.now (sym c.can_turn.ensures ∙ c.if-can_turn.true)) c.loop-unseen.found (search_end _ _ _ _ _ c.loop-unseen.invariant.2 (omega arith)) c.if-found-ge-PLACES.true
 
 pub returns-then-is_ready : goal.returns-then-is_ready
 returns-then-is_ready c =
@@ -69,13 +52,13 @@ returns-then-is_ready c =
     let k = c.loop-unseen.found in
     let n = c.share_of-share in
     served_by a.bytes.now a.self a.events.now k n.result n.ensures c.served-p.result c.served-p.new.share c.served-p.ensures
-    ∙ turn_served a.bytes.now a.self a.events.now (buffer c.before.before.before.before.before.before.before.before.before.before.before.before) (range c.before.before.before.before.before.before.before.before.before.before.before.before) k (next c.before.before.before.before.before.before.before.before.before.before) n.result n.ensures c.if-found-ge-PLACES.false (sym c.is_ready.ensures ∙ c.if-is_ready.true)
+    ∙ turn_served a.bytes.now a.self a.events.now (turn_buffer c.args.bytes.now c.args.self c.args.events.now (sym c.can_turn.ensures ∙ c.if-can_turn.true)) (turn_range c.args.bytes.now c.args.self c.args.events.now (sym c.can_turn.ensures ∙ c.if-can_turn.true)) k (search_end _ _ _ _ _ c.loop-unseen.invariant.2 (omega arith)) n.result n.ensures c.if-found-ge-PLACES.false (sym c.is_ready.ensures ∙ c.if-is_ready.true)
 
 pub returns-else-is_ready : goal.returns-else-is_ready
 returns-else-is_ready c =
     let a = c.args in
     let n = c.share_of-share in
-    turn_unready a.bytes.now a.self a.events.now (buffer c.before.before.before.before.before.before.before) (range c.before.before.before.before.before.before.before) c.loop-unseen.found (next c.before.before.before.before.before) n.result n.ensures c.if-found-ge-PLACES.false (sym c.is_ready.ensures ∙ c.if-is_ready.false)
+    turn_unready a.bytes.now a.self a.events.now (turn_buffer c.args.bytes.now c.args.self c.args.events.now (sym c.can_turn.ensures ∙ c.if-can_turn.true)) (turn_range c.args.bytes.now c.args.self c.args.events.now (sym c.can_turn.ensures ∙ c.if-can_turn.true)) c.loop-unseen.found (search_end _ _ _ _ _ c.loop-unseen.invariant.2 (omega arith)) n.result n.ensures c.if-found-ge-PLACES.false (sym c.is_ready.ensures ∙ c.if-is_ready.false)
 
 pub returns-else-can_turn : goal.returns-else-can_turn
 returns-else-can_turn c =

@@ -12,25 +12,25 @@ use Rattle.worker.proofs.Worker.verdict.Goals as goal
 pub returns-then-not-holds : goal.returns-then-not-holds
 returns-then-not-holds c =
     let a = c.args in
-    rw c.refuse.ensures (verdict_none a.i a.verdict a.self (sym c.holds.ensures ∙ not_yes _ c.if-not-holds.true))
+    rw c.refuse.ensures (verdict_none a.i a.verdict a.self (sym c.holds.ensures ∙ c.if-not-holds.true))
 
 pub offset_bounds-self-i : goal.offset_bounds-self-i
 offset_bounds-self-i c =
     let a = c.args in
-    omega (arith, (held a.i a.self (sym c.holds.ensures ∙ not_no _ c.if-not-holds.false)).small)
+    omega (arith, (held a.i a.self (sym c.holds.ensures ∙ c.if-not-holds.false)).small)
 
 pub bounds-self-i : goal.bounds-self-i
 bounds-self-i c =
     let a = c.args in
-    omega (arith, (held a.i a.self (sym c.holds.ensures ∙ not_no _ c.if-not-holds.false)).small)
+    omega (arith, (held a.i a.self (sym c.holds.ensures ∙ c.if-not-holds.false)).small)
 
 pub put-worker-requires : goal.put-worker-requires
 put-worker-requires c =
     let a = c.args in
-    (held a.i a.self (sym c.holds.ensures ∙ not_no _ c.if-not-holds.false)).small
+    (held a.i a.self (sym c.holds.ensures ∙ c.if-not-holds.false)).small
 
 pub returns : goal.returns
 returns c =
     let a = c.args in
     ap (λ (w : Worker). left w (said_by c.give-given.result.answer) []) c.put-worker.ensures
-    ∙ verdict_given a.i a.verdict a.self (sym c.holds.ensures ∙ not_no _ c.if-not-holds.false) _ c.give-given.ensures
+    ∙ verdict_given a.i a.verdict a.self (sym c.holds.ensures ∙ c.if-not-holds.false) _ c.give-given.ensures
