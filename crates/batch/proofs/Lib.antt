@@ -1,4 +1,4 @@
 pub mod Loops
 pub mod Rooms
+pub mod States
 pub mod Answered
-pub mod Lent

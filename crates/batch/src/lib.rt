@@ -1,8 +1,7 @@
 // A page's openings in one call: a lent list of records, each answered in place, as single scans in list order are, each over the event
 // room that the earlier ones left. The page's text is read once for the whole list.
 //
-// A slice of structs is no form of the covered functions, so `fill` is two thin loops over covered ones, and its proof is a walk by hand:
-// a record is filled in `record`, and what a turn of each loop does is in `turns`.
+// `fill` is two thin loops: a record is filled in `record`, and what a turn of each loop does is in `turns`.
 #![tactic(auto)]
 
 ghost use Rattle.std.specs.Prelude.{◌≡◌};

@@ -1,5 +1,4 @@
-// The same over a fixed number of records by value. A lent slice of structs is no form of the covered functions, so whoever holds one is
-// walked by hand; whoever calls this one is not.
+// The same over a fixed number of records by value.
 ghost use Rattle.std.specs.Prelude.{◌≡◌};
 ghost use Rattle.batch.specs.Batch.{batch, batch_of};
 

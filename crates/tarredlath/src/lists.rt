@@ -1,4 +1,4 @@
-// Lists of openings. A lent list of structs is handed on as it is, and the proof of that is a walk by hand.
+// Lists of openings. A lent list of structs is handed on as it is.
 ghost use Rattle.std.specs.Prelude.{◌≡◌};
 ghost use Rattle.batch.specs.Batch.{batch, batch_of};
 

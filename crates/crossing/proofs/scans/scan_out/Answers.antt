@@ -4,4 +4,4 @@ use Rattle.crossing.proofs.scans.scan_out.Goals as goal
 
 pub returns : goal.returns
 unfolding scan_out
-returns c = rw (c.flags_out.ensures, c.tab_out-tab.ensures, c.verdict_out.ensures)
+returns c = rw (c.flags_out-flags.ensures, c.tab_out-tab.ensures, c.verdict_out-heard.ensures)

@@ -12,7 +12,7 @@ loop-k-init c = (omega arith, begins _ _ 16 _ refl)
 
 pub loop-k-preserved : goal.loop-k-preserved
 loop-k-preserved c =
-    (omega arith, goes_on_lem _ _ 16 c.loop-k.k c.loop-k.places c.IsPlace_out.result (omega arith) c.IsPlace_out.ensures c.loop-k.invariant.1)
+    (omega arith, goes_on_lem _ _ 16 c.loop-k.k c.loop-k.places c.place_out.result (omega arith) c.place_out.ensures c.loop-k.invariant.1)
 
 pub returns : goal.returns
 unfolding worker_out

@@ -12,4 +12,4 @@ returns-then-worker_listed c =
 pub returns : goal.returns
 unfolding view_face
 returns c =
-    if_no _ _ _ _ _ (sym c.worker_listed.ensures ∙ c.if-worker_listed.false) c.nothing_Seen.ensures
+    if_no _ _ _ _ _ (sym c.worker_listed.ensures ∙ c.if-worker_listed.false) c.nothing_seen.ensures
