@@ -1,5 +1,4 @@
 -- The turns that are left are fewer after each.
-use Rattle.std.proofs.Common.{rules}
 use Rattle.cases.proofs.run_all.Given as goal
 
 abbrev pub invariant-loop-left : goal.invariant-loop-left

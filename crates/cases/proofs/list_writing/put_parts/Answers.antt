@@ -1,5 +1,5 @@
 -- The buffer keeps its length from part to part.
-use Rattle.std.proofs.Common.{◌≡◌, ◌-◌, length, refl, ◌∙◌, rules}
+use Rattle.std.proofs.Common.{refl, ◌∙◌}
 use Rattle.cases.proofs.list_writing.put_parts.Goals as goal
 
 pub loop-i-init : goal.loop-i-init

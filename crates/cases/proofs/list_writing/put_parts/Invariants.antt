@@ -1,5 +1,5 @@
 -- The buffer keeps its length from part to part.
-use Rattle.std.proofs.Common.{◌≡◌, ◌-◌, length, refl, ◌∙◌, rules}
+use Rattle.std.proofs.Common.{◌≡◌, ◌-◌, length}
 use Rattle.cases.proofs.list_writing.put_parts.Given as goal
 
 abbrev pub invariant-loop-i : goal.invariant-loop-i

@@ -1,5 +1,5 @@
 -- A piece begins past the beginning of the one before it, and the lent words and the buffer keep their lengths.
-use Rattle.std.proofs.Common.{◌≡◌, ◌+◌, ◌-◌, length, refl, ◌∙◌, arith, rules}
+use Rattle.std.proofs.Common.{◌≡◌, ◌+◌, ◌-◌, length}
 use Rattle.cases.proofs.list_writing.put_pieces.Given as goal
 
 abbrev pub invariant-loop-front : goal.invariant-loop-front
