@@ -8,6 +8,8 @@ mod replying;
 mod script;
 
 use lines::{finish_run, fresh_run, one_turn};
+use std::io::Read;
+use std::rt::Files;
 
 // Room for the longest line, which lends bytes in hex; for those bytes; for the event buffer, with one word more, so that a buffer
 // of another length than any worker's can be lent; for a copy of a body; and for what is about to be written, of which the longest
@@ -26,17 +28,31 @@ const TEXT_ROOM: usize = 196_608;
 // More than there are lines and reads in any input.
 const TURNS: u64 = 18_446_744_073_709_551_615;
 
-fn main() {
+fn main(rt: HostRuntime) {
+    let mut source = rt.stdin();
+    let errors = rt.stderr();
     let mut buffer = [0u8; LINE_ROOM];
     let mut lent = [0u8; LENT_ROOM];
     let mut events = [0u32; WORD_ROOM];
     let mut scratch = [0u8; SCRATCH_ROOM];
     let mut out = [0u8; TEXT_ROOM];
-    run_all(&mut buffer, &mut lent, &mut events, &mut scratch, &mut out);
+    run_all(
+        &rt,
+        &mut source,
+        &errors,
+        &mut buffer,
+        &mut lent,
+        &mut events,
+        &mut scratch,
+        &mut out,
+    );
 }
 
 // The arrays go on as slices from here, so that nothing is asked about so many elements.
 fn run_all(
+    rt: &(impl Files + Print),
+    source: &mut impl Read,
+    errors: &impl Print,
     buffer: &mut [u8; LINE_ROOM],
     lent: &mut [u8; LENT_ROOM],
     events: &mut [u32; WORD_ROOM],
@@ -46,8 +62,8 @@ fn run_all(
     let mut run = fresh_run();
     let mut left = TURNS;
     while 0 < left {
-        run = one_turn(buffer, lent, events, scratch, out, run);
+        run = one_turn(rt, source, buffer, lent, events, scratch, out, run);
         left = text::turns_left(left, run.going);
     }
-    finish_run(out, run);
+    finish_run(rt, errors, out, run);
 }

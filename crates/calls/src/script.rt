@@ -36,25 +36,32 @@ pub(crate) fn fresh_script() -> Script {
 }
 
 // A line that is no call, or that asks for more than the program has room for, changes nothing.
-pub(crate) fn bad_line(out: &mut [u8], script: Script, why: &[u8]) -> Script {
+pub(crate) fn bad_line(rt: &impl Print, out: &mut [u8], script: Script, why: &[u8]) -> Script {
     let mut next = script;
-    next.used = report::put_bad_line(out, script.used, script.line, why);
-    next.bad = std::num::wrapping_add_u64(script.bad, 1);
+    next.used = report::put_bad_line(rt, out, script.used, script.line, why);
+    next.bad = script.bad.wrapping_add(1);
     next
 }
 
-fn put_call(line: &[u8], out: &mut [u8], used: usize) -> usize {
-    let at = report::put(out, used, line);
-    report::put(out, at, b" => ")
+fn put_call(rt: &impl Print, line: &[u8], out: &mut [u8], used: usize) -> usize {
+    let at = report::put(rt, out, used, line);
+    report::put(rt, out, at, b" => ")
 }
 
 // The script after a call, whose reply is written behind it.
-fn finish(line: &[u8], called: Called, events: &[u32], out: &mut [u8], script: Script) -> Script {
+fn finish(
+    rt: &impl Print,
+    line: &[u8],
+    called: Called,
+    events: &[u32],
+    out: &mut [u8],
+    script: Script,
+) -> Script {
     let worker = called.worker;
     let reply = called.reply;
-    let at = put_call(line, out, script.used);
-    let at = put_reply(reply, events, out, at);
-    let used = report::put(out, at, b"\n");
+    let at = put_call(rt, line, out, script.used);
+    let at = put_reply(rt, reply, events, out, at);
+    let used = report::put(rt, out, at, b"\n");
     Script {
         worker,
         lent: script.lent,
@@ -66,6 +73,7 @@ fn finish(line: &[u8], called: Called, events: &[u32], out: &mut [u8], script: S
 }
 
 pub(crate) fn serve(
+    rt: &impl Print,
     line: &[u8],
     lent: &mut [u8],
     events: &mut [u32],
@@ -75,25 +83,26 @@ pub(crate) fn serve(
 ) -> Script {
     let call = read_call(line);
     match call {
-        Call::Lend(from) => lend(line, from, lent, out, script),
-        Call::Start { q, words } => start(line, q, words, events, out, script),
-        Call::Words(length) => words_for(line, length, out, script),
+        Call::Lend(from) => lend(rt, line, from, lent, out, script),
+        Call::Start { q, words } => start(rt, line, q, words, events, out, script),
+        Call::Words(length) => words_for(rt, line, length, out, script),
         Call::Admit {
             letters,
             start,
             at,
             length,
-        } => admit(line, letters, start, at, length, lent, out, script),
+        } => admit(rt, line, letters, start, at, length, lent, out, script),
         Call::Body {
             place,
             scratch: count,
-        } => body(line, place, count, lent, scratch, out, script),
-        _ => serve_place(line, call, lent, events, out, script),
+        } => body(rt, line, place, count, lent, scratch, out, script),
+        _ => serve_place(rt, line, call, lent, events, out, script),
     }
 }
 
 // The calls on pages that were admitted.
 fn serve_place(
+    rt: &impl Print,
     line: &[u8],
     call: Call,
     lent: &[u8],
@@ -102,9 +111,19 @@ fn serve_place(
     script: Script,
 ) -> Script {
     match call {
-        Call::Turn => turn(line, lent, events, script.lent, script.words, out, script),
-        Call::TurnOfWords(words) => turn(line, lent, events, script.lent, words, out, script),
+        Call::Turn => turn(
+            rt,
+            line,
+            lent,
+            events,
+            script.lent,
+            script.words,
+            out,
+            script,
+        ),
+        Call::TurnOfWords(words) => turn(rt, line, lent, events, script.lent, words, out, script),
         Call::TurnOfLent(count) => turn(
+            rt,
             line,
             lent,
             events,
@@ -113,38 +132,52 @@ fn serve_place(
             out,
             script,
         ),
-        Call::Tell { place, verdict } => tell(line, place, verdict, out, script),
-        Call::Collect(place) => collect(line, place, events, out, script),
-        _ => bad_line(out, script, b""),
+        Call::Tell { place, verdict } => tell(rt, line, place, verdict, out, script),
+        Call::Collect(place) => collect(rt, line, place, events, out, script),
+        _ => bad_line(rt, out, script, b""),
     }
 }
 
 // The bytes stand on the line up to its end; more than there is room for are not taken.
-fn lend(line: &[u8], from: usize, lent: &mut [u8], out: &mut [u8], script: Script) -> Script {
+fn lend(
+    rt: &impl Print,
+    line: &[u8],
+    from: usize,
+    lent: &mut [u8],
+    out: &mut [u8],
+    script: Script,
+) -> Script {
     match text::read_bytes(line, from, line.len(), lent) {
         Hex::Decoded(count) => {
-            let at = put_call(line, out, script.used);
+            let at = put_call(rt, line, out, script.used);
             let mut next = script;
             next.lent = count;
-            next.used = report::put(out, at, b"Lent\n");
+            next.used = report::put(rt, out, at, b"Lent\n");
             next
         }
-        Hex::BadHex => bad_line(out, script, b""),
-        Hex::NoRoom => bad_line(out, script, b""),
+        Hex::BadHex => bad_line(rt, out, script, b""),
+        Hex::NoRoom => bad_line(rt, out, script, b""),
     }
 }
 
 // Nothing is asked of a worker, so there need be none.
-fn words_for(line: &[u8], length: usize, out: &mut [u8], script: Script) -> Script {
-    let at = put_call(line, out, script.used);
-    let at = put_enough(room::words_enough(length), out, at);
+fn words_for(
+    rt: &impl Print,
+    line: &[u8],
+    length: usize,
+    out: &mut [u8],
+    script: Script,
+) -> Script {
+    let at = put_call(rt, line, out, script.used);
+    let at = put_enough(rt, room::words_enough(length), out, at);
     let mut next = script;
-    next.used = report::put(out, at, b"\n");
+    next.used = report::put(rt, out, at, b"\n");
     next
 }
 
 // A worker that is refused leaves the one that was there.
 fn start(
+    rt: &impl Print,
     line: &[u8],
     q: usize,
     words: usize,
@@ -153,19 +186,20 @@ fn start(
     script: Script,
 ) -> Script {
     if MOST_WORDS < words {
-        return bad_line(out, script, b"");
+        return bad_line(rt, out, script, b"");
     }
     let called = Worker::new(q, words);
     let reply = called.reply;
     if is_started(reply) {
-        return begin(line, called, words, events, out, script);
+        return begin(rt, line, called, words, events, out, script);
     }
     let worker = script.worker;
-    finish(line, Called { worker, reply }, &[], out, script)
+    finish(rt, line, Called { worker, reply }, &[], out, script)
 }
 
 // The new worker, with an event buffer of zeros.
 fn begin(
+    rt: &impl Print,
     line: &[u8],
     called: Called,
     words: usize,
@@ -176,7 +210,7 @@ fn begin(
     clear(events);
     let mut next = script;
     next.words = words;
-    finish(line, called, &[], out, next)
+    finish(rt, line, called, &[], out, next)
 }
 
 fn clear(events: &mut [u32]) {
@@ -188,6 +222,7 @@ fn clear(events: &mut [u32]) {
 }
 
 fn admit(
+    rt: &impl Print,
     line: &[u8],
     letters: Letters,
     start: usize,
@@ -208,12 +243,13 @@ fn admit(
         letters.kind,
         letters.flags,
     );
-    finish(line, called, &[], out, script)
+    finish(rt, line, called, &[], out, script)
 }
 
 // A turn over the first `count` of the lent bytes and an event buffer of so many words. The buffer has one word more than a worker
 // may have: more words than that are all of them, which is another length than any worker's.
 fn turn(
+    rt: &impl Print,
     line: &[u8],
     lent: &[u8],
     events: &mut [u32],
@@ -226,26 +262,41 @@ fn turn(
     let length = text::least(words, events.len());
     let worker = script.worker;
     let called = worker.turn(&lent[0..bytes], &mut events[0..length]);
-    finish(line, called, events, out, script)
+    finish(rt, line, called, events, out, script)
 }
 
-fn tell(line: &[u8], place: usize, verdict: Verdict, out: &mut [u8], script: Script) -> Script {
+fn tell(
+    rt: &impl Print,
+    line: &[u8],
+    place: usize,
+    verdict: Verdict,
+    out: &mut [u8],
+    script: Script,
+) -> Script {
     let worker = script.worker;
     let called = worker.verdict(place, verdict);
-    finish(line, called, &[], out, script)
+    finish(rt, line, called, &[], out, script)
 }
 
 // The events of the page stand in the share of its place.
-fn collect(line: &[u8], place: usize, events: &[u32], out: &mut [u8], script: Script) -> Script {
+fn collect(
+    rt: &impl Print,
+    line: &[u8],
+    place: usize,
+    events: &[u32],
+    out: &mut [u8],
+    script: Script,
+) -> Script {
     let count = text::least(script.words, events.len());
     let worker = script.worker;
     let called = worker.collect(place);
     let share = worker.share(&events[0..count], place);
-    finish(line, called, share, out, script)
+    finish(rt, line, called, share, out, script)
 }
 
 // A body, by way of the first `count` bytes of the scratch.
 fn body(
+    rt: &impl Print,
     line: &[u8],
     place: usize,
     count: usize,
@@ -255,12 +306,13 @@ fn body(
     script: Script,
 ) -> Script {
     if scratch.len() < count {
-        return bad_line(out, script, b"");
+        return bad_line(rt, out, script, b"");
     }
     let bytes = text::least(script.lent, lent.len());
     let worker = script.worker;
-    let at = put_call(line, out, script.used);
+    let at = put_call(rt, line, out, script.used);
     let at = put_body(
+        rt,
         worker,
         &lent[0..bytes],
         place,
@@ -269,6 +321,6 @@ fn body(
         at,
     );
     let mut next = script;
-    next.used = report::put(out, at, b"\n");
+    next.used = report::put(rt, out, at, b"\n");
     next
 }

@@ -20,7 +20,13 @@ pub(crate) struct Begun {
     pub writes: bool,
 }
 
-pub(crate) fn begin_answer(line: &[u8], behind: Behind, out: &mut [u8], run: Run) -> Begun {
+pub(crate) fn begin_answer(
+    rt: &impl Print,
+    line: &[u8],
+    behind: Behind,
+    out: &mut [u8],
+    run: Run,
+) -> Begun {
     match behind {
         Behind::Nothing => Begun {
             run: counted(run, 0, 0),
@@ -31,20 +37,20 @@ pub(crate) fn begin_answer(line: &[u8], behind: Behind, out: &mut [u8], run: Run
             writes: false,
         },
         Behind::Other => Begun {
-            run: recorded_first(line, out, counted(run, 1, 1)),
+            run: recorded_first(rt, line, out, counted(run, 1, 1)),
             writes: true,
         },
         Behind::NoAnswer => Begun {
-            run: bad_line(out, run, b""),
+            run: bad_line(rt, out, run, b""),
             writes: false,
         },
     }
 }
 
-fn recorded_first(line: &[u8], out: &mut [u8], run: Run) -> Run {
-    let at = report::put(out, run.used, b"DIFFERS\n");
-    let at = report::put(out, at, line);
-    end_answer(run, report::put(out, at, b"\n"))
+fn recorded_first(rt: &impl Print, line: &[u8], out: &mut [u8], run: Run) -> Run {
+    let at = report::put(rt, out, run.used, b"DIFFERS\n");
+    let at = report::put(rt, out, at, line);
+    end_answer(run, report::put(rt, out, at, b"\n"))
 }
 
 // What was written goes up to this place of the output's buffer.

@@ -11,6 +11,7 @@ use report::Told;
 
 // The case ends at the place that is given.
 pub(crate) fn case_line(
+    rt: &impl Print,
     line: &[u8],
     end: usize,
     space: &mut [u8],
@@ -24,14 +25,15 @@ pub(crate) fn case_line(
 {
     match read_case(&line[0..end], space) {
         ReadCase::Good(case) => {
-            run_read(line, end, case, space, words, scratch, piece, out, run)
+            run_read(rt, line, end, case, space, words, scratch, piece, out, run)
         }
-        ReadCase::Bad => bad_line(out, run, b""),
+        ReadCase::Bad => bad_line(rt, out, run, b""),
     }
 }
 
 // The case is run on its page, with the words that its room says.
 fn run_read(
+    rt: &impl Print,
     line: &[u8],
     end: usize,
     case: Case,
@@ -47,6 +49,7 @@ fn run_read(
     let count = text::least(case.length, space.len());
     let room = events::room::words_for(case.room, words.len());
     run_good(
+        rt,
         line,
         end,
         case,
@@ -60,6 +63,7 @@ fn run_read(
 }
 
 fn run_good(
+    rt: &impl Print,
     line: &[u8],
     end: usize,
     case: Case,
@@ -75,11 +79,12 @@ fn run_good(
     let outcome = run_case(line, case, page, words, scratch, piece);
     let told = outcome.told;
     let length = outcome.length;
-    answer_line(line, end, told, &piece[0..length], words, out, run)
+    answer_line(rt, line, end, told, &piece[0..length], words, out, run)
 }
 
 // The case with its answer, or both answers where they differ.
 fn answer_line(
+    rt: &impl Print,
     line: &[u8],
     end: usize,
     told: Told,
@@ -90,12 +95,18 @@ fn answer_line(
 ) -> Run
     requires { end ≤ length line.now }
 {
-    let begun = begin_answer(line, behind_case(line, end, told, answer, words), out, run);
+    let begun = begin_answer(
+        rt,
+        line,
+        behind_case(line, end, told, answer, words),
+        out,
+        run,
+    );
     let run = begun.run;
     if !begun.writes {
         return run;
     }
-    let used = put_case(&line[0..end], told, answer, words, out, run.used);
+    let used = put_case(rt, &line[0..end], told, answer, words, out, run.used);
     end_answer(run, used)
 }
 
@@ -117,6 +128,7 @@ fn behind_case(line: &[u8], end: usize, told: Told, answer: &[u8], words: &[u32]
 
 // The case with its answer, steps and events.
 fn put_case(
+    rt: &impl Print,
     case: &[u8],
     told: Told,
     answer: &[u8],
@@ -124,16 +136,16 @@ fn put_case(
     out: &mut [u8],
     used: usize,
 ) -> usize {
-    let at = report::put(out, used, case);
-    let at = report::put(out, at, b" => ");
-    let at = report::put(out, at, answer);
-    let at = put_steps(told.steps, out, at);
-    let at = report::put_marks(out, at, words, told.events);
-    report::put(out, at, b"\n")
+    let at = report::put(rt, out, used, case);
+    let at = report::put(rt, out, at, b" => ");
+    let at = report::put(rt, out, at, answer);
+    let at = put_steps(rt, told.steps, out, at);
+    let at = report::put_marks(rt, out, at, words, told.events);
+    report::put(rt, out, at, b"\n")
 }
 
-fn put_steps(steps: usize, out: &mut [u8], used: usize) -> usize {
-    let at = report::put(out, used, b" | steps ");
-    let at = report::put_number(out, at, steps as u64);
-    report::put(out, at, b" | events")
+fn put_steps(rt: &impl Print, steps: usize, out: &mut [u8], used: usize) -> usize {
+    let at = report::put(rt, out, used, b" | steps ");
+    let at = report::put_number(rt, out, at, steps as u64);
+    report::put(rt, out, at, b" | events")
 }

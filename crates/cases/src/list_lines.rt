@@ -11,6 +11,7 @@ use crate::run::{Run, bad_line};
 
 // The list ends at the place that is given.
 pub(crate) fn list_line(
+    rt: &impl Print,
     line: &[u8],
     end: usize,
     space: &mut [u8],
@@ -21,13 +22,14 @@ pub(crate) fn list_line(
     requires { end ≤ length line.now }
 {
     match read_head(&line[0..end], space) {
-        ReadHead::Good(head) => run_read(line, end, head, space, words, out, run),
-        ReadHead::Bad => bad_line(out, run, b""),
+        ReadHead::Good(head) => run_read(rt, line, end, head, space, words, out, run),
+        ReadHead::Bad => bad_line(rt, out, run, b""),
     }
 }
 
 // The list is run on its page, with the words that its room says.
 fn run_read(
+    rt: &impl Print,
     line: &[u8],
     end: usize,
     head: Head,
@@ -41,6 +43,7 @@ fn run_read(
     let count = text::least(head.length, space.len());
     let room = events::room::words_for(head.room, words.len());
     judged_line(
+        rt,
         line,
         end,
         head.jobs,
@@ -53,6 +56,7 @@ fn run_read(
 
 // Nothing is run before all jobs of the list, which begin at a place, are looked at.
 fn judged_line(
+    rt: &impl Print,
     line: &[u8],
     end: usize,
     from: usize,
@@ -65,14 +69,15 @@ fn judged_line(
 {
     let judged = judge(&line[0..end], from, words);
     if !judged.all_read {
-        return bad_line(out, run, b"");
+        return bad_line(rt, out, run, b"");
     }
-    answer_line(line, end, from, judged.refused, page, words, out, run)
+    answer_line(rt, line, end, from, judged.refused, page, words, out, run)
 }
 
 // The list with its answers, or both where they differ. It is run anew for each of comparing and writing, so that no more than a piece
 // of it is kept.
 fn answer_line(
+    rt: &impl Print,
     line: &[u8],
     end: usize,
     from: usize,
@@ -85,12 +90,12 @@ fn answer_line(
     requires { end ≤ length line.now }
 {
     let behind = behind_list(line, end, from, refused, page, words);
-    let begun = begin_answer(line, behind, out, run);
+    let begun = begin_answer(rt, line, behind, out, run);
     let run = begun.run;
     if !begun.writes {
         return run;
     }
-    let used = put_list(&line[0..end], from, refused, page, words, out, run.used);
+    let used = put_list(rt, &line[0..end], from, refused, page, words, out, run.used);
     end_answer(run, used)
 }
 

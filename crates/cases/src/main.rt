@@ -21,6 +21,8 @@ mod running;
 
 use lines::{one_turn, put_totals};
 use run::fresh_run;
+use std::io::Read;
+use std::rt::Files;
 
 // Room for the longest line, a page, a body, the words of six events for each byte and the page's end, an answer with its body in
 // hex, and what is about to be written.
@@ -40,7 +42,9 @@ const TEXT_ROOM: usize = 65_536;
 // More than there are lines and reads in any input.
 const TURNS: u64 = 18_446_744_073_709_551_615;
 
-fn main() {
+fn main(rt: HostRuntime) {
+    let mut source = rt.stdin();
+    let errors = rt.stderr();
     let mut buffer = [0u8; LINE_ROOM];
     let mut page = [0u8; PAGE_ROOM];
     let mut words = [0u32; WORD_ROOM];
@@ -48,6 +52,9 @@ fn main() {
     let mut piece = [0u8; PIECE_ROOM];
     let mut out = [0u8; TEXT_ROOM];
     run_all(
+        &rt,
+        &mut source,
+        &errors,
         &mut buffer,
         &mut page,
         &mut words,
@@ -59,6 +66,9 @@ fn main() {
 
 // The arrays go on as slices from here, so that nothing is asked about so many elements.
 fn run_all(
+    rt: &(impl Files + Print),
+    source: &mut impl Read,
+    errors: &impl Print,
     buffer: &mut [u8; LINE_ROOM],
     page: &mut [u8; PAGE_ROOM],
     words: &mut [u32; WORD_ROOM],
@@ -69,8 +79,8 @@ fn run_all(
     let mut run = fresh_run();
     let mut left = TURNS;
     while 0 < left {
-        run = one_turn(buffer, page, words, scratch, piece, out, run);
+        run = one_turn(rt, source, buffer, page, words, scratch, piece, out, run);
         left = text::turns_left(left, run.going);
     }
-    put_totals(out, run);
+    put_totals(rt, errors, out, run);
 }

@@ -31,13 +31,13 @@ pub(crate) fn fresh_run() -> Run {
 }
 
 // There are far fewer lines than would make a count wrap.
-fn one_more_lem(count: u64) -> u64 {
-    std::num::wrapping_add_u64(count, 1)
+fn one_more(count: u64) -> u64 {
+    count.wrapping_add(1)
 }
 
 pub(crate) fn numbered(run: Run) -> Run {
     let mut next = run;
-    next.line = one_more_lem(run.line);
+    next.line = one_more(run.line);
     next
 }
 
@@ -47,18 +47,18 @@ pub(crate) fn stopped(run: Run) -> Run {
     next
 }
 
-pub(crate) fn bad_line(out: &mut [u8], run: Run, why: &[u8]) -> Run {
+pub(crate) fn bad_line(rt: &impl Print, out: &mut [u8], run: Run, why: &[u8]) -> Run {
     let mut next = run;
-    next.used = report::put_bad_line(out, run.used, run.line, why);
-    next.bad = one_more_lem(run.bad);
+    next.used = report::put_bad_line(rt, out, run.used, run.line, why);
+    next.bad = one_more(run.bad);
     next
 }
 
 // One more case, with so many comparisons and differences.
 pub(crate) fn counted(run: Run, compared: u64, differ: u64) -> Run {
     let mut next = run;
-    next.cases = one_more_lem(run.cases);
-    next.compared = std::num::wrapping_add_u64(run.compared, compared);
-    next.differ = std::num::wrapping_add_u64(run.differ, differ);
+    next.cases = one_more(run.cases);
+    next.compared = run.compared.wrapping_add(compared);
+    next.differ = run.differ.wrapping_add(differ);
     next
 }

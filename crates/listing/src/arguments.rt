@@ -1,4 +1,6 @@
 // What the program's arguments ask for.
+use std::env::FillError;
+use std::rt::Env;
 use text::Parsed;
 
 // Where the scan starts, and in flow or in text, by the numbers of docs/NUMBERS.md.
@@ -21,17 +23,26 @@ const WORD_ROOM: usize = 16;
 const NO_KIND: u8 = 255;
 
 // The first argument is the program's own name.
-pub(crate) fn read_arguments() -> ReadArguments {
+pub(crate) fn read_arguments(rt: &impl Env) -> ReadArguments {
     let mut space = [0u8; WORD_ROOM];
-    match os::arg_count() {
-        0 => checked(Parsed::Number(0), tokenizer::FLOW),
-        1 => checked(Parsed::Number(0), tokenizer::FLOW),
-        2 => checked(start_in(&mut space), tokenizer::FLOW),
-        3 => {
-            let start = start_in(&mut space);
-            checked(start, kind_in(&mut space))
-        }
-        _ => ReadArguments::Bad,
+    if !is_given(rt, 1, &mut space) {
+        return checked(Parsed::Number(0), tokenizer::FLOW);
+    }
+    if !is_given(rt, 2, &mut space) {
+        return checked(start_in(rt, &mut space), tokenizer::FLOW);
+    }
+    if !is_given(rt, 3, &mut space) {
+        let start = start_in(rt, &mut space);
+        return checked(start, kind_in(rt, &mut space));
+    }
+    ReadArguments::Bad
+}
+
+fn is_given(rt: &impl Env, number: usize, space: &mut [u8]) -> bool {
+    match rt.arg(number, space) {
+        Ok(_) => true,
+        Err(FillError::TooLong) => true,
+        Err(FillError::NotPresent) => false,
     }
 }
 
@@ -48,13 +59,13 @@ fn checked(start: Parsed, kind: u8) -> ReadArguments {
     }
 }
 
-fn start_in(space: &mut [u8]) -> Parsed {
-    let length = os::arg(1, space);
+fn start_in(rt: &impl Env, space: &mut [u8]) -> Parsed {
+    let length = word_in(rt, 1, space);
     text::decimal(space, 0, length)
 }
 
-fn kind_in(space: &mut [u8]) -> u8 {
-    let length = os::arg(2, space);
+fn kind_in(rt: &impl Env, space: &mut [u8]) -> u8 {
+    let length = word_in(rt, 2, space);
     if text::is_word(space, 0, length, b"f") {
         return tokenizer::FLOW;
     }
@@ -62,4 +73,9 @@ fn kind_in(space: &mut [u8]) -> u8 {
         return tokenizer::TEXT;
     }
     NO_KIND
+}
+
+// An argument is put at the space's start: its length, or 0 where the space has no room for it.
+fn word_in(rt: &impl Env, number: usize, space: &mut [u8]) -> usize {
+    rt.arg(number, space).unwrap_or(0)
 }

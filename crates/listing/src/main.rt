@@ -12,6 +12,8 @@ use arguments::{Asked, ReadArguments, read_arguments};
 use reading::{ReadPage, read_page};
 use report::{Told, tell};
 use scanning::answer_of;
+use std::io::Read;
+use std::rt::{Env, Files};
 
 // The longest page, and room for one byte more, which shows that a page is longer.
 const LONGEST: usize = 60_000;
@@ -23,50 +25,80 @@ const WORD_ROOM: usize = room::AT_EACH_BYTE * PAGE_ROOM * events::WIDTH;
 
 const TEXT_ROOM: usize = 65_536;
 
-fn main() {
+fn main(rt: HostRuntime) {
+    let mut source = rt.stdin();
+    let errors = rt.stderr();
     let mut page = [0u8; PAGE_ROOM];
     let mut words = [0u32; WORD_ROOM];
     let mut out = [0u8; TEXT_ROOM];
-    run(&mut page, &mut words, &mut out);
+    run(&rt, &mut source, &errors, &mut page, &mut words, &mut out);
 }
 
 // The arrays go on as slices from here, so that nothing is asked about so many elements.
-fn run(page: &mut [u8; PAGE_ROOM], words: &mut [u32; WORD_ROOM], out: &mut [u8; TEXT_ROOM]) {
-    list(page, words, out);
+fn run(
+    rt: &(impl Env + Files + Print),
+    source: &mut impl Read,
+    errors: &impl Print,
+    page: &mut [u8; PAGE_ROOM],
+    words: &mut [u32; WORD_ROOM],
+    out: &mut [u8; TEXT_ROOM],
+) {
+    list(rt, source, errors, page, words, out);
 }
 
-fn list(space: &mut [u8], words: &mut [u32], out: &mut [u8]) {
-    match read_arguments() {
-        ReadArguments::Good(asked) => list_input(asked, space, words, out),
-        ReadArguments::Bad => report::give_up(b"usage: listing [START [f|t]]\n"),
+fn list(
+    rt: &(impl Env + Files + Print),
+    source: &mut impl Read,
+    errors: &impl Print,
+    space: &mut [u8],
+    words: &mut [u32],
+    out: &mut [u8],
+) {
+    match read_arguments(rt) {
+        ReadArguments::Good(asked) => list_input(rt, source, errors, asked, space, words, out),
+        ReadArguments::Bad => report::give_up(rt, errors, b"usage: listing [START [f|t]]\n"),
     }
 }
 
-fn list_input(asked: Asked, space: &mut [u8], words: &mut [u32], out: &mut [u8]) {
-    match read_page(space) {
+fn list_input(
+    rt: &(impl Files + Print),
+    source: &mut impl Read,
+    errors: &impl Print,
+    asked: Asked,
+    space: &mut [u8],
+    words: &mut [u32],
+    out: &mut [u8],
+) {
+    match read_page(source, space) {
         ReadPage::Read(read) => {
             let count = text::least(read, space.len());
-            list_page(asked, &space[0..count], words, out)
+            list_page(rt, asked, &space[0..count], words, out)
         }
-        ReadPage::Failed => report::give_up(b"listing: standard input can't be read\n"),
+        ReadPage::Failed => report::give_up(rt, errors, b"listing: standard input can't be read\n"),
     }
 }
 
-fn list_page(asked: Asked, page: &[u8], words: &mut [u32], out: &mut [u8]) {
+fn list_page(
+    rt: &(impl Files + Print),
+    asked: Asked,
+    page: &[u8],
+    words: &mut [u32],
+    out: &mut [u8],
+) {
     if LONGEST < page.len() {
-        report::flush(b"toolong\n", 8);
-        report::say_status(1);
+        report::flush(rt, b"toolong\n", 8);
+        report::say_status(rt, 1);
         return;
     }
     let answer = answer_of(asked, page, words);
-    list_answer(tell(answer), words, out);
+    list_answer(rt, tell(answer), words, out);
 }
 
-fn list_answer(told: Told, words: &[u32], out: &mut [u8]) {
+fn list_answer(rt: &(impl Files + Print), told: Told, words: &[u32], out: &mut [u8]) {
     let used = first_line(out, told);
-    let used = report::put_event_lines(out, used, words, told.events);
-    report::flush(out, used);
-    report::say_status(if told.number == 0 { 0 } else { 1 });
+    let used = report::put_event_lines(rt, out, used, words, told.events);
+    report::flush(rt, out, used);
+    report::say_status(rt, if told.number == 0 { 0 } else { 1 });
 }
 
 // The answer in lower case, and its steps and event count where it carries them.

@@ -1,4 +1,5 @@
 // The page, from standard input.
+use std::io::Read;
 use text::Input;
 
 #[derive(Clone, Copy)]
@@ -13,11 +14,11 @@ pub(crate) enum ReadPage {
 const READS: u64 = 100_000;
 
 // A read into a space that is full gives nothing, and is the end too.
-pub(crate) fn read_page(space: &mut [u8]) -> ReadPage {
+pub(crate) fn read_page(source: &mut impl Read, space: &mut [u8]) -> ReadPage {
     let mut input = Input::new();
     let mut left = READS;
     while 0 < left {
-        let filled = text::fill(space, input);
+        let filled = text::fill(source, space, input);
         if filled.failed {
             return ReadPage::Failed;
         }

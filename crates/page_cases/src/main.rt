@@ -2,8 +2,10 @@
 // writes them; a line that can't be read counts as a difference.
 #![tactic(auto)]
 
-use libc::{STDIN_FILENO, STDOUT_FILENO};
+ghost use Rattle.std.specs.Prelude.{◌≤◌, length};
+
 use page::Checked;
+use std::io::Read;
 use text::{Hex, Parsed};
 
 // Room for the whole input, of which what is beyond is not read, and for the longest text on a line.
@@ -17,33 +19,51 @@ struct Tally {
     differ: u64,
 }
 
-fn main() {
+fn main(rt: HostRuntime) {
+    let mut source = rt.stdin();
     let mut input = [0u8; INPUT_ROOM];
     let mut space = [0u8; TEXT_ROOM];
-    run(&mut input, &mut space);
+    run(&rt, &mut source, &mut input, &mut space);
 }
 
 // The arrays go on as slices from here, so that nothing is asked about so many elements.
-fn run(input: &mut [u8; INPUT_ROOM], space: &mut [u8; TEXT_ROOM]) {
-    compare(input, space);
+fn run(
+    rt: &impl Print,
+    source: &mut impl Read,
+    input: &mut [u8; INPUT_ROOM],
+    space: &mut [u8; TEXT_ROOM],
+) {
+    compare(rt, source, input, space);
 }
 
-fn compare(input: &mut [u8], space: &mut [u8]) {
-    let count = io::read_full(STDIN_FILENO, input);
-    let tally = compare_lines(&input[0..count], space);
-    io::print_decimal(STDOUT_FILENO, tally.compared);
-    io::write_all(STDOUT_FILENO, b" compared, ");
-    io::print_decimal(STDOUT_FILENO, tally.differ);
-    io::write_all(STDOUT_FILENO, b" differ\n");
+fn compare(rt: &impl Print, source: &mut impl Read, input: &mut [u8], space: &mut [u8]) {
+    let count = read_full(source, input);
+    let tally = compare_lines(rt, &input[0..count], space);
+    let _ = println!(rt; "{} compared, {} differ", tally.compared, tally.differ);
 }
 
-fn compare_lines(input: &[u8], space: &mut [u8]) -> Tally {
+// Until the input is full, the source ends or a read fails: how many bytes stand at the input's start.
+fn read_full(source: &mut impl Read, input: &mut [u8]) -> usize
+    ensures { result ≤ length input.new }
+{
+    let mut done = 0;
+    while done < input.len() {
+        let count = source.read(&mut input[done..]).unwrap_or(0);
+        if count == 0 {
+            return done;
+        }
+        done += count;
+    }
+    done
+}
+
+fn compare_lines(rt: &impl Print, input: &[u8], space: &mut [u8]) -> Tally {
     let mut compared: u64 = 0;
     let mut differ: u64 = 0;
     let mut at = 0;
     while at < input.len() {
         let end = text::find(input, at, b'\n');
-        if !line_agrees(&input[at..end], space) {
+        if !line_agrees(rt, &input[at..end], space) {
             differ += 1;
         }
         compared += 1;
@@ -53,12 +73,12 @@ fn compare_lines(input: &[u8], space: &mut [u8]) -> Tally {
 }
 
 // A line that differs is written out.
-fn line_agrees(line: &[u8], space: &mut [u8]) -> bool {
+fn line_agrees(rt: &impl Print, line: &[u8], space: &mut [u8]) -> bool {
     if agrees(line, space) {
         return true;
     }
-    io::write_all(STDOUT_FILENO, line);
-    io::write_all(STDOUT_FILENO, b" DIFFERS\n");
+    let _ = rt.write_all(line);
+    let _ = rt.write_all(b" DIFFERS\n");
     false
 }
 

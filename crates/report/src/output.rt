@@ -12,7 +12,11 @@ ghost use Rattle.report.specs.Put.{outcome, put_of};
 
 use crate::marks::{event_line, event_mark};
 use crate::pieces::{hex, in_room, number, text};
-use libc::{STDERR_FILENO, STDOUT_FILENO};
+use std::fs;
+use std::fs::OpenOptions;
+use std::io::Write;
+use std::os::unix::fs::MetadataExt;
+use std::rt::Files;
 
 // More than an event takes, and a line that can't be read; and as much as a number takes.
 const EVENT_ROOM: usize = 256;
@@ -21,70 +25,93 @@ const BAD_LINE_ROOM: usize = 256;
 
 const NUMBER_ROOM: usize = 20;
 
-const STATUS_FILENO: i32 = 3;
+// What descriptor 3 is open on.
+const STATUS_FILE: &str = "/proc/self/fd/3";
+
+// The owner may write.
+const WRITABLE: u32 = 0o200;
 
 // The place to go on at: the buffer is written out where so many bytes do not fit any more.
-pub fn make_room(out: &[u8], used: usize, count: usize) -> usize
+pub fn make_room(rt: &impl Print, out: &[u8], used: usize, count: usize) -> usize
     ensures value { result ≡ free_place (length out.now) used count }
     ensures upper_bound { result ≤ length out.now }
 {
     let at = in_room(out.len(), used);
     if out.len() - at < count {
-        io::write_all(STDOUT_FILENO, &out[0..at]);
+        let _ = rt.write_all(&out[0..at]);
         return 0;
     }
     at
 }
 
 // The buffer is written out.
-pub fn flush(out: &[u8], used: usize) {
+pub fn flush(rt: &impl Print, out: &[u8], used: usize) {
     let at = in_room(out.len(), used);
-    io::write_all(STDOUT_FILENO, &out[0..at]);
+    let _ = rt.write_all(&out[0..at]);
 }
 
-// How a program ended, for whoever started it with a place for it: 0, 1 or 2, as a line on descriptor 3. A program has no exit
-// status of its own; where that descriptor is not open, nothing happens.
-pub fn say_status(status: u8) {
+// How a program ended, for whoever started it with a place for it: 0, 1 or 2, as a line on descriptor 3. Its exit status is 0 in each
+// case; where that descriptor is not open, nothing happens.
+pub fn say_status(rt: &impl Files, status: u8) {
     if status == 0 {
-        io::write_all(STATUS_FILENO, b"0\n");
+        write_status(rt, b"0\n");
         return;
     }
     if status == 1 {
-        io::write_all(STATUS_FILENO, b"1\n");
+        write_status(rt, b"1\n");
         return;
     }
-    io::write_all(STATUS_FILENO, b"2\n");
+    write_status(rt, b"2\n");
+}
+
+// The line goes behind what stands there.
+fn write_status(rt: &impl Files, line: &[u8]) {
+    if !takes_status(rt) {
+        return;
+    }
+    if let Ok(mut file) = OpenOptions::new().append(true).open(rt, STATUS_FILE) {
+        let _ = file.write_all(line);
+    }
+}
+
+// Whether descriptor 3 is open for writing, which the mode of the link that leads to its file says. Where it is open for reading alone,
+// the file is not one for a status, though it could be opened anew for writing.
+fn takes_status(rt: &impl Files) -> bool {
+    match fs::symlink_metadata(rt, STATUS_FILE) {
+        Ok(link) => link.mode() & WRITABLE != 0,
+        Err(_) => false,
+    }
 }
 
 // A program could not do its work: why is said on standard error, and the status is 2.
-pub fn give_up(why: &[u8]) {
-    io::write_all(STDERR_FILENO, why);
-    say_status(2);
+pub fn give_up(rt: &impl Files, errors: &impl Print, why: &[u8]) {
+    let _ = errors.write_all(why);
+    say_status(rt, 2);
 }
 
 // The bytes go to the buffer; what does not fit there even when it is empty is written out at once.
-pub fn put(out: &mut [u8], used: usize, bytes: &[u8]) -> usize
+pub fn put(rt: &impl Print, out: &mut [u8], used: usize, bytes: &[u8]) -> usize
     ensures { outcome result out.new ≡ put_of out.old (free_place (length out.old) used (length bytes.now)) (bytes.now ∷ []) }
 {
-    let at = make_room(out, used, bytes.len());
+    let at = make_room(rt, out, used, bytes.len());
     if out.len() < bytes.len() {
-        io::write_all(STDOUT_FILENO, bytes);
+        let _ = rt.write_all(bytes);
     }
     text(out, at, bytes)
 }
 
-pub fn put_number(out: &mut [u8], used: usize, n: u64) -> usize
+pub fn put_number(rt: &impl Print, out: &mut [u8], used: usize, n: u64) -> usize
     ensures { outcome result out.new ≡ put_of out.old (free_place (length out.old) used number_room) (decimal n ∷ []) }
 {
-    let at = make_room(out, used, NUMBER_ROOM);
+    let at = make_room(rt, out, used, NUMBER_ROOM);
     number(out, at, n)
 }
 
 // The number of a line that can't be read, and why, if that is known.
-pub fn put_bad_line(out: &mut [u8], used: usize, line: u64, why: &[u8]) -> usize
+pub fn put_bad_line(rt: &impl Print, out: &mut [u8], used: usize, line: u64, why: &[u8]) -> usize
     ensures { outcome result out.new ≡ put_of out.old (free_place (length out.old) used bad_line_room) (bad_line_pieces line why.now) }
 {
-    let at = make_room(out, used, BAD_LINE_ROOM);
+    let at = make_room(rt, out, used, BAD_LINE_ROOM);
     let at = text(out, at, b"BadLine ");
     let at = number(out, at, line);
     let at = text(out, at, why);
@@ -92,22 +119,22 @@ pub fn put_bad_line(out: &mut [u8], used: usize, line: u64, why: &[u8]) -> usize
 }
 
 // How many lines could not be read, where there were any.
-pub fn put_bad_lines(out: &mut [u8], used: usize, count: u64) -> usize
+pub fn put_bad_lines(rt: &impl Print, out: &mut [u8], used: usize, count: u64) -> usize
     ensures { outcome result out.new ≡ bad_lines_put out.old used count }
 {
     if count == 0 {
         return used;
     }
-    let at = make_room(out, used, BAD_LINE_ROOM);
+    let at = make_room(rt, out, used, BAD_LINE_ROOM);
     let at = number(out, at, count);
     text(out, at, b" bad lines\n")
 }
 
 // A field of bytes. One that does not fit even into the empty buffer is not put.
-pub fn put_hex(out: &mut [u8], used: usize, bytes: &[u8]) -> usize
+pub fn put_hex(rt: &impl Print, out: &mut [u8], used: usize, bytes: &[u8]) -> usize
     ensures { outcome result out.new ≡ put_of out.old (free_place (length out.old) used (field_room (length out.old) (length bytes.now))) (field_of bytes.now ∷ []) }
 {
-    let at = make_room(out, used, field_room(out.len(), bytes.len()));
+    let at = make_room(rt, out, used, field_room(out.len(), bytes.len()));
     hex(out, at, bytes)
 }
 
@@ -125,14 +152,14 @@ fn field_room(room: usize, count: usize) -> usize
 }
 
 // A mark for each of the first `count` events, as far as there are words.
-pub fn put_marks(out: &mut [u8], used: usize, words: &[u32], count: usize) -> usize
+pub fn put_marks(rt: &impl Print, out: &mut [u8], used: usize, words: &[u32], count: usize) -> usize
     ensures { outcome result out.new ≡ put_each mark_pieces out.old used (first_events words.now count) }
 {
     let most = events::room::held(count, words.len());
     let mut at = used;
     let mut k = 0;
     while k < most {
-        let place = make_room(out, at, EVENT_ROOM);
+        let place = make_room(rt, out, at, EVENT_ROOM);
         at = event_mark(out, place, events::read(words, k));
         k += 1;
     }
@@ -140,14 +167,20 @@ pub fn put_marks(out: &mut [u8], used: usize, words: &[u32], count: usize) -> us
 }
 
 // A line for each of them.
-pub fn put_event_lines(out: &mut [u8], used: usize, words: &[u32], count: usize) -> usize
+pub fn put_event_lines(
+    rt: &impl Print,
+    out: &mut [u8],
+    used: usize,
+    words: &[u32],
+    count: usize,
+) -> usize
     ensures { outcome result out.new ≡ put_each line_pieces out.old used (first_events words.now count) }
 {
     let most = events::room::held(count, words.len());
     let mut at = used;
     let mut k = 0;
     while k < most {
-        let place = make_room(out, at, EVENT_ROOM);
+        let place = make_room(rt, out, at, EVENT_ROOM);
         at = event_line(out, place, events::read(words, k));
         k += 1;
     }

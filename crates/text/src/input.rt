@@ -1,4 +1,4 @@
-// Lines from standard input, by way of a lent buffer: any number of them, each shorter than the buffer.
+// Lines from a reader, as standard input, by way of a lent buffer: any number of them, each shorter than the buffer.
 //
 // The bytes of the buffer from one place up to another have been read and not been used. take_line uses up a line of them, and
 // says where there is none yet; fill reads more.
@@ -6,7 +6,7 @@ ghost use Rattle.std.specs.Prelude.{◌≡◌, false, ◌+◌, ◌-◌, ◌≤�
 ghost use Rattle.text.specs.Input.{least_of, turns_left, front_input, cut_of, line_of, last_of, rest_of, taken_of, moved_down, Filled};
 
 use crate::places::find;
-use libc::STDIN_FILENO;
+use std::io::Read;
 
 // The unused bytes are those from `at` up to `end`. A line that was too long is being skipped; the input has ended.
 #[derive(Clone, Copy)]
@@ -180,7 +180,7 @@ const READ_ROOM: usize = 16_384;
 
 // The unused bytes are moved to the front, and what one read gives is put behind them. A read that gives nothing, or fails,
 // is the input's end.
-pub fn fill(buffer: &mut [u8], input: Input) -> Refill
+pub fn fill(source: &mut impl Read, buffer: &mut [u8], input: Input) -> Refill
     ensures { Filled buffer.old input result.input buffer.new }
 {
     let end = least(input.end, buffer.len());
@@ -188,8 +188,9 @@ pub fn fill(buffer: &mut [u8], input: Input) -> Refill
     let rest = end - at;
     move_down(buffer, at, rest);
     let stop = rest + least(buffer.len() - rest, READ_ROOM);
-    let got = libc::read(STDIN_FILENO, &mut buffer[rest..stop]);
-    let count = io::count(got, &buffer[rest..stop]);
+    let got = source.read(&mut buffer[rest..stop]);
+    let failed = got.is_err();
+    let count = got.unwrap_or(0);
     Refill {
         input: Input {
             at: 0,
@@ -197,7 +198,7 @@ pub fn fill(buffer: &mut [u8], input: Input) -> Refill
             skips: input.skips,
             ended: count == 0,
         },
-        failed: got < 0,
+        failed,
     }
 }
 

@@ -1,9 +1,8 @@
 -- The turns that are left are fewer after each.
-use Rattle.std.proofs.Common.{rules}
 use Rattle.calls.proofs.run_all.Given as goal
 
 abbrev pub invariant-loop-left : goal.invariant-loop-left
-invariant-loop-left l = Unit {0}
+invariant-loop-left g l = Unit {0}
 
 abbrev pub decreases-loop-left : goal.decreases-loop-left
-decreases-loop-left l = l.left
+decreases-loop-left g l = l.left

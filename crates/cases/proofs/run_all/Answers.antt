@@ -3,4 +3,4 @@ use Rattle.std.proofs.Common.{rules}
 use Rattle.cases.proofs.run_all.Goals as goal
 
 pub loop-left-smaller : goal.loop-left-smaller
-loop-left-smaller c = search (rules, c.turns_left-left.ensures.upper_bound)
+loop-left-smaller g c = search (rules, c.turns_left-left.ensures.upper_bound)

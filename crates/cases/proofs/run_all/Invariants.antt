@@ -1,11 +1,10 @@
 -- The turns that are left are fewer after each.
-use Rattle.std.proofs.Common.{rules}
 use Rattle.cases.proofs.run_all.Given as goal
 
 abbrev pub invariant-loop-left : goal.invariant-loop-left
-invariant-loop-left l =
+invariant-loop-left g l =
     Unit {0}
 
 abbrev pub decreases-loop-left : goal.decreases-loop-left
-decreases-loop-left l =
+decreases-loop-left g l =
     l.left

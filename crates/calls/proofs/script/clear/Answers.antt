@@ -1,5 +1,5 @@
 -- Every place that is written lies in the buffer.
-use Rattle.std.proofs.Common.{◌≡◌, ◌-◌, ◌≤◌, length, refl, arith, length-set, rules}
+use Rattle.std.proofs.Common.{refl, arith, length-set}
 use Rattle.calls.proofs.script.clear.Goals as goal
 
 pub loop-i-init : goal.loop-i-init

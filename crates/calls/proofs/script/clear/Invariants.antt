@@ -1,5 +1,5 @@
 -- Every place that is written lies in the buffer.
-use Rattle.std.proofs.Common.{◌≡◌, ◌-◌, ◌≤◌, length, refl, arith, length-set, rules}
+use Rattle.std.proofs.Common.{◌≡◌, ◌-◌, ◌≤◌, length}
 use Rattle.calls.proofs.script.clear.Given as goal
 
 abbrev pub invariant-loop-i : goal.invariant-loop-i

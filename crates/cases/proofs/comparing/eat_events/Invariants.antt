@@ -1,5 +1,5 @@
 -- One event is passed in each turn.
-use Rattle.std.proofs.Common.{◌≡◌, ◌-◌, length, refl, ◌∙◌, rules}
+use Rattle.std.proofs.Common.{◌≡◌, ◌-◌, length}
 use Rattle.cases.proofs.comparing.eat_events.Given as goal
 
 abbrev pub invariant-loop-k : goal.invariant-loop-k

@@ -1,5 +1,5 @@
 -- One part is passed in each turn.
-use Rattle.std.proofs.Common.{◌-◌, rules}
+use Rattle.std.proofs.Common.{◌-◌}
 use Rattle.cases.proofs.list_comparing.eat_parts.Given as goal
 
 abbrev pub invariant-loop-i : goal.invariant-loop-i

@@ -1,5 +1,5 @@
 -- A piece begins past the beginning of the one before it, and the lent words keep their length.
-use Rattle.std.proofs.Common.{◌≡◌, ◌+◌, ◌-◌, length, refl, ◌∙◌, arith, rules}
+use Rattle.std.proofs.Common.{◌≡◌, ◌+◌, ◌-◌, length}
 use Rattle.cases.proofs.list_pieces.judge.Given as goal
 
 abbrev pub invariant-loop-at : goal.invariant-loop-at

@@ -1,5 +1,5 @@
 -- A job ends behind its beginning, and no more are taken than there are records.
-use Rattle.std.proofs.Common.{◌+◌, ◌-◌, ◌≤◌, length, arith, rules}
+use Rattle.std.proofs.Common.{arith, rules}
 use Rattle.cases.proofs.list_reading.read_jobs.Goals as goal
 
 pub slice_bounds-read_job-count : goal.slice_bounds-read_job-count

@@ -1,5 +1,5 @@
 -- A job ends behind its beginning, and no more are taken than there are records.
-use Rattle.std.proofs.Common.{◌+◌, ◌-◌, ◌≤◌, length, arith, rules}
+use Rattle.std.proofs.Common.{◌+◌, ◌-◌, ◌≤◌, length}
 use Rattle.cases.proofs.list_reading.read_jobs.Given as goal
 
 abbrev pub invariant-loop-at : goal.invariant-loop-at

@@ -1,5 +1,5 @@
 -- An item that ends before the list does leaves fewer bytes.
-use Rattle.std.proofs.Common.{◌-◌, ◌≤◌, arith, rules}
+use Rattle.std.proofs.Common.{arith}
 use Rattle.cases.proofs.reading.all_verdicts.Goals as goal
 
 pub overflow_add-at : goal.overflow_add-at

@@ -1,5 +1,5 @@
 -- An item that ends before the list does leaves fewer bytes.
-use Rattle.std.proofs.Common.{◌-◌, ◌≤◌, arith, rules}
+use Rattle.std.proofs.Common.{◌-◌, ◌≤◌}
 use Rattle.cases.proofs.reading.all_verdicts.Given as goal
 
 abbrev pub invariant-loop-at : goal.invariant-loop-at

@@ -1,5 +1,5 @@
 -- A mark ends behind the space before it.
-use Rattle.std.proofs.Common.{◌-◌, length, arith, rules}
+use Rattle.std.proofs.Common.{arith}
 use Rattle.cases.proofs.recorded.all_marks.Goals as goal
 
 pub loop-at-smaller : goal.loop-at-smaller

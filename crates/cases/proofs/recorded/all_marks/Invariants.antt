@@ -1,5 +1,5 @@
 -- A mark ends behind the space before it.
-use Rattle.std.proofs.Common.{◌-◌, length, arith, rules}
+use Rattle.std.proofs.Common.{◌-◌, length}
 use Rattle.cases.proofs.recorded.all_marks.Given as goal
 
 abbrev pub invariant-loop-at : goal.invariant-loop-at

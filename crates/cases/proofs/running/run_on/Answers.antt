@@ -1,5 +1,5 @@
 -- The lent words keep their length from call to call.
-use Rattle.std.proofs.Common.{◌≡◌, length, refl, ◌∙◌, rules}
+use Rattle.std.proofs.Common.{refl, ◌∙◌}
 use Rattle.cases.proofs.running.run_on.Goals as goal
 
 pub loop-left-init : goal.loop-left-init

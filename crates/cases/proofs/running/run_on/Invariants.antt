@@ -1,5 +1,5 @@
 -- The lent words keep their length from call to call.
-use Rattle.std.proofs.Common.{◌≡◌, length, refl, ◌∙◌, rules}
+use Rattle.std.proofs.Common.{◌≡◌, length}
 use Rattle.cases.proofs.running.run_on.Given as goal
 
 abbrev pub invariant-loop-left : goal.invariant-loop-left

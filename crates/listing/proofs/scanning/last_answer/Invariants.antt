@@ -1,7 +1,6 @@
 -- The lent words keep their length from call to call.
-use mathlib.Core.Path.{◌≡◌, refl, ◌∙◌}
+use mathlib.Core.Path.{◌≡◌}
 use lib.ListN.{length}
-use borrow.Author.Rules.{rules}
 use Rattle.listing.proofs.scanning.last_answer.Given as goal
 
 abbrev pub invariant-loop-left : goal.invariant-loop-left

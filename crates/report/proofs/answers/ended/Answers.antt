@@ -1,4 +1,3 @@
-use borrow.Author.Rules.{rules}
 use Rattle.report.proofs.answers.ended.Goals as goal
 
 pub returns : goal.returns

@@ -1,4 +1,3 @@
-use borrow.Author.Rules.{rules}
 use Rattle.report.proofs.answers.tell.Goals as goal
 
 pub returns-in-Done : goal.returns-in-Done

@@ -1,6 +1,5 @@
 use Rattle.report.proofs.Puts.{put_as}
 use Rattle.report.proofs.Names.{of_none}
-use borrow.Author.Rules.{rules}
 use Rattle.report.proofs.kinds.kind_name.Goals as goal
 
 pub returns-then-kind-gt-LARGEST_KIND : goal.returns-then-kind-gt-LARGEST_KIND

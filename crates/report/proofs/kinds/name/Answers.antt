@@ -1,7 +1,6 @@
 use native.Mathlib.Omega.{arith}
 use Rattle.report.proofs.Puts.{put_as}
 use Rattle.report.proofs.Names.{of_expression, of_tag, of_attribute, of_last}
-use borrow.Author.Rules.{rules}
 use Rattle.report.proofs.kinds.name.Goals as goal
 
 pub returns-then-number-lt-JSX_FLOW_TAG : goal.returns-then-number-lt-JSX_FLOW_TAG

@@ -3,7 +3,6 @@ use Rattle.base.specs.Table.{find}
 use Rattle.base.proofs.Tables.{not_found}
 use Rattle.report.specs.Name.{tag_name, tag_names, unknown}
 use Rattle.report.proofs.Puts.{put_as}
-use borrow.Author.Rules.{rules}
 use Rattle.report.proofs.kinds.tag_name.Goals as goal
 
 pub returns-in-7 : goal.returns-in-7

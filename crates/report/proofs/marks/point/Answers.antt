@@ -1,5 +1,4 @@
 use Rattle.report.proofs.Puts.{then_put}
-use borrow.Author.Rules.{rules}
 use Rattle.report.proofs.marks.point.Goals as goal
 
 pub returns : goal.returns

@@ -1,4 +1,3 @@
-use borrow.Author.Rules.{rules}
 use Rattle.report.proofs.marks.sign.Goals as goal
 
 pub returns-then-exit : goal.returns-then-exit

@@ -1,4 +1,3 @@
-use borrow.Author.Rules.{rules}
 use Rattle.report.proofs.marks.verb.Goals as goal
 
 pub returns-then-exit : goal.returns-then-exit

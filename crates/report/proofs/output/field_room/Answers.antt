@@ -1,6 +1,5 @@
 use Rattle.base.proofs.Choice.{picks}
 use Rattle.report.specs.Output.{field_room}
-use borrow.Author.Rules.{rules}
 use Rattle.report.proofs.output.field_room.Goals as goal
 
 pub returns-then-count-eq0 : goal.returns-then-count-eq0

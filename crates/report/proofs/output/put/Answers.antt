@@ -1,5 +1,4 @@
-use borrow.Author.Rules.{rules}
 use Rattle.report.proofs.output.put.Goals as goal
 
 pub returns : goal.returns
-returns c = rw c.make_room-at.ensures.value at c.text.ensures.out_after
+returns g c = rw c.make_room-at.ensures.value at c.text.ensures.out_after

@@ -1,16 +1,15 @@
 use Rattle.base.proofs.Choice.{picks}
 use Rattle.report.specs.Output.{bad_lines_put}
 use Rattle.report.proofs.Puts.{then_put}
-use borrow.Author.Rules.{rules}
 use Rattle.report.proofs.output.put_bad_lines.Goals as goal
 
 pub returns-then-count-eq0 : goal.returns-then-count-eq0
 unfolding bad_lines_put
-returns-then-count-eq0 c = search picks depth 12
+returns-then-count-eq0 g c = search picks depth 12
 
 pub returns : goal.returns
 unfolding bad_lines_put
-returns c =
+returns g c =
     let counted = rw c.make_room-at.ensures.value at c.number-at.ensures in
     let put = then_put _ _ _ _ counted c.text.ensures.out_after in
     search (picks, put) depth 12

@@ -1,5 +1,4 @@
-use borrow.Author.Rules.{rules}
 use Rattle.report.proofs.output.put_number.Goals as goal
 
 pub returns : goal.returns
-returns c = rw c.make_room-at.ensures.value at c.number.ensures
+returns g c = rw c.make_room-at.ensures.value at c.number.ensures

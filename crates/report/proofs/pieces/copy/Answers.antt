@@ -1,10 +1,9 @@
 -- The invariant: what is copied and what is left to copy make the whole.
-use Prim.Native.Nat.{◌+◌, ◌-◌, ◌≤◌}
+use Prim.Native.Nat.{◌+◌}
 use native.Mathlib.Nat.{add-zero}
 use native.Mathlib.Omega.{arith}
-use mathlib.Core.Path.{◌≡◌, refl, sym, ◌∙◌}
-use lib.ListN.{length, drop, get_or, length-set}
-use lib.Seq.{sets}
+use mathlib.Core.Path.{refl, sym, ◌∙◌}
+use lib.ListN.{get_or, length-set}
 use Rattle.report.proofs.Copied.{one_more_lem, all_copied}
 use Rattle.report.proofs.pieces.copy.Goals as goal
 

@@ -1,11 +1,8 @@
 -- The invariant: what is copied and what is left to copy make the whole.
 use Prim.Native.Nat.{◌+◌, ◌-◌, ◌≤◌}
-use native.Mathlib.Nat.{add-zero}
-use native.Mathlib.Omega.{arith}
-use mathlib.Core.Path.{◌≡◌, refl, sym, ◌∙◌}
-use lib.ListN.{length, drop, get_or, length-set}
+use mathlib.Core.Path.{◌≡◌}
+use lib.ListN.{length, drop}
 use lib.Seq.{sets}
-use Rattle.report.proofs.Copied.{one_more_lem, all_copied}
 use Rattle.report.proofs.pieces.copy.Given as goal
 
 abbrev pub invariant-loop-i : goal.invariant-loop-i

@@ -1,6 +1,5 @@
 use Rattle.base.proofs.Choice.{picks}
 use Rattle.report.specs.Hex.{digit_of}
-use borrow.Author.Rules.{rules}
 use Rattle.report.proofs.pieces.hex_digit.Goals as goal
 
 pub returns-then-n-lt10 : goal.returns-then-n-lt10

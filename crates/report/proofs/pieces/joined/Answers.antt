@@ -1,5 +1,4 @@
 use Rattle.report.proofs.Puts.{then_put, within_put}
-use borrow.Author.Rules.{rules}
 use Rattle.report.proofs.pieces.joined.Goals as goal
 
 pub returns : goal.returns

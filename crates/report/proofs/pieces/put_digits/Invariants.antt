@@ -1,13 +1,9 @@
 -- The invariant: what is put and what is left to put make the whole.
 use Prim.Native.Nat.{◌+◌, ◌-◌, ◌*◌, ◌≤◌}
-use native.Mathlib.Nat.{add-zero}
-use native.Mathlib.Omega.{arith}
-use mathlib.Core.Path.{◌≡◌, refl, sym, ◌∙◌}
-use lib.ListN.{length, drop, get_or, length-set}
+use mathlib.Core.Path.{◌≡◌}
+use lib.ListN.{length, drop}
 use lib.Seq.{sets}
 use Rattle.report.specs.Hex.{hex_of}
-use Rattle.report.proofs.Digits.{two_more, all_digits}
-use borrow.Author.Rules.{rules}
 use Rattle.report.proofs.pieces.put_digits.Given as goal
 
 abbrev pub invariant-loop-i : goal.invariant-loop-i

@@ -1,5 +1,4 @@
 use Rattle.report.proofs.Puts.{nothing_put}
-use borrow.Author.Rules.{rules}
 use Rattle.report.proofs.pieces.value.Goals as goal
 
 pub returns-then-carried : goal.returns-then-carried
@@ -8,4 +7,4 @@ returns-then-carried c = rw c.if-carried.true c.spaced.ensures.out_after
 pub returns : goal.returns
 returns c =
     let a = c.args in
-    rw c.if-carried.false (nothing_put a.out.now a.at c.in_room.result c.in_room.ensures.0)
+    rw c.if-carried.false (nothing_put a.out.now a.at c.in_room.result c.in_room.ensures.value)

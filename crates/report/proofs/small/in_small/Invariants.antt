@@ -1,10 +1,7 @@
 -- The invariant: the bytes passed are in lower case, and the others as they were.
 use Prim.Native.Nat.{◌-◌}
-use native.Mathlib.Omega.{arith}
-use mathlib.Core.Path.{refl}
 use lib.ListN.{length}
-use Rattle.report.proofs.Lowering.{UpTo, one_more_lem, all_small}
-use borrow.Author.Rules.{rules}
+use Rattle.report.proofs.Lowering.{UpTo}
 use Rattle.report.proofs.small.in_small.Given as goal
 
 abbrev pub invariant-loop-i : goal.invariant-loop-i

@@ -1,6 +1,5 @@
 use Rattle.base.proofs.Choice.{picks}
 use Rattle.report.specs.Small.{small_of}
-use borrow.Author.Rules.{rules}
 use Rattle.report.proofs.small.small.Goals as goal
 
 pub returns-then-byte-lt65 : goal.returns-then-byte-lt65

@@ -4,7 +4,6 @@ use Rattle.base.proofs.Tables.{not_found}
 use Rattle.report.specs.AnswerText.{answer_name, answer_names}
 use Rattle.report.specs.Name.{unknown}
 use Rattle.report.proofs.Puts.{put_as}
-use borrow.Author.Rules.{rules}
 use Rattle.report.proofs.wording.answer_name.Goals as goal
 
 pub returns-in-0 : goal.returns-in-0

@@ -1,5 +1,4 @@
 use Rattle.report.proofs.Puts.{then_put, nothing_put}
-use borrow.Author.Rules.{rules}
 use Rattle.report.proofs.wording.place.Goals as goal
 
 pub returns-then-told : goal.returns-then-told
@@ -9,4 +8,4 @@ returns-then-told c =
 pub returns : goal.returns
 returns c =
     let a = c.args in
-    rw c.if-told.false (nothing_put a.out.now a.at c.in_room.result c.in_room.ensures.0)
+    rw c.if-told.false (nothing_put a.out.now a.at c.in_room.result c.in_room.ensures.value)

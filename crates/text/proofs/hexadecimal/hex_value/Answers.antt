@@ -2,7 +2,6 @@
 use Prim.Native.Nat.{ℕ, ◌+◌, ◌-◌}
 use native.Mathlib.Omega.{arith}
 use mathlib.Core.Path.{refl}
-use borrow.Author.Rules.{rules}
 use Rattle.base.specs.Byte.{digit0, digit9, small_a}
 use Rattle.base.specs.If.{if◌then◌else◌}
 use Rattle.base.proofs.Choice.{if_yes, if_no}

@@ -1,5 +1,4 @@
 use Rattle.base.proofs.Choice.{picks}
-use borrow.Author.Rules.{rules}
 use Rattle.text.proofs.hexadecimal.read_bytes.Goals as goal
 
 pub returns-then-is_word : goal.returns-then-is_word

@@ -1,20 +1,17 @@
 -- The invariant: what is written and what is left to write make the whole.
-use Prim.Native.Nat.{◌+◌, ◌-◌, ◌*◌, ◌/◌, ◌≤◌}
+use Prim.Native.Nat.{◌+◌, ◌*◌}
 use native.Mathlib.Numerals.{add-one}
 use native.Mathlib.Omega.{arith}
-use mathlib.Core.Path.{◌≡◌, refl, sym, ◌∙◌, ap}
-use mathlib.Core.Bool.{true}
-use borrow.Author.Rules.{rules}
-use lib.ListN.{length, drop, length-set}
+use mathlib.Core.Path.{refl, sym, ◌∙◌, ap}
+use lib.ListN.{length-set}
 use lib.Seq.{sets}
-use Rattle.text.specs.Hex.{pairs, bytes_of}
 use Rattle.text.proofs.Pairs.{first_pair, bytes_at, bytes_end}
 use Rattle.text.proofs.hexadecimal.write_pairs.Goals as goal
 
 pub loop-at-init : goal.loop-at-init
 loop-at-init c =
     let pre = c.requires in
-    (omega arith, refl, refl, pre.1, pre.0, refl)
+    (omega arith, refl, refl, pre.digits_in_bounds, pre.digits_value, refl)
 
 pub bounds-digits-at-in-loop-at : goal.bounds-digits-at-in-loop-at
 bounds-digits-at-in-loop-at c =

@@ -1,14 +1,10 @@
 -- The invariant: what is written and what is left to write make the whole.
-use Prim.Native.Nat.{◌+◌, ◌-◌, ◌*◌, ◌/◌, ◌≤◌}
-use native.Mathlib.Numerals.{add-one}
-use native.Mathlib.Omega.{arith}
-use mathlib.Core.Path.{◌≡◌, refl, sym, ◌∙◌, ap}
+use Prim.Native.Nat.{◌-◌, ◌*◌, ◌/◌, ◌≤◌}
+use mathlib.Core.Path.{◌≡◌}
 use mathlib.Core.Bool.{true}
-use borrow.Author.Rules.{rules}
-use lib.ListN.{length, drop, length-set}
+use lib.ListN.{length, drop}
 use lib.Seq.{sets}
 use Rattle.text.specs.Hex.{pairs, bytes_of}
-use Rattle.text.proofs.Pairs.{first_pair, bytes_at, bytes_end}
 use Rattle.text.proofs.hexadecimal.write_pairs.Given as goal
 
 abbrev pub invariant-loop-at : goal.invariant-loop-at

@@ -1,11 +1,8 @@
 -- The invariant: so many bytes are moved as were passed.
 use Prim.Native.Nat.{◌+◌, ◌-◌, ◌≤◌}
-use native.Mathlib.Omega.{arith}
-use mathlib.Core.Path.{◌≡◌, refl}
-use lib.ListN.{length, length-set}
-use borrow.Author.Rules.{rules}
+use mathlib.Core.Path.{◌≡◌}
+use lib.ListN.{length}
 use Rattle.text.specs.Input.{moved_down}
-use Rattle.text.proofs.Moving.{moved_none, moved_still, moved_more}
 use Rattle.text.proofs.input.move_down.Given as goal
 
 abbrev pub invariant-loop-i : goal.invariant-loop-i

@@ -1,7 +1,6 @@
 use native.Mathlib.Omega.{arith}
 use Rattle.base.proofs.Choice.{picks}
 use Rattle.text.specs.Input.{turns_left}
-use borrow.Author.Rules.{rules}
 use Rattle.text.proofs.input.turns_left.Goals as goal
 
 pub returns-then-left-eq0 : goal.returns-then-left-eq0

@@ -1,6 +1,5 @@
 use Rattle.base.proofs.Choice.{picks}
 use Rattle.text.specs.Letters.{checked_of}
-use borrow.Author.Rules.{rules}
 use Rattle.text.proofs.letters.checked.Goals as goal
 
 pub returns-then-construct-eq-NONE : goal.returns-then-construct-eq-NONE

@@ -1,6 +1,5 @@
 use Rattle.base.proofs.Choice.{picks}
 use Rattle.text.specs.Letters.{letter_at}
-use borrow.Author.Rules.{rules}
 use Rattle.text.proofs.letters.letter.Goals as goal
 
 pub returns-then-line-at : goal.returns-then-line-at

@@ -1,5 +1,4 @@
 use Rattle.base.proofs.Choice.{picks}
-use borrow.Author.Rules.{rules}
 use Rattle.text.proofs.letters.read_letters.Goals as goal
 
 pub returns-then-line-lt-LETTERS_LENGTH : goal.returns-then-line-lt-LETTERS_LENGTH

@@ -1,6 +1,5 @@
 -- The part is handed on where it lies in the line.
 use Rattle.base.proofs.Choice.{picks}
-use borrow.Author.Rules.{rules}
 use Rattle.text.proofs.numbers.decimal.Goals as goal
 
 pub returns-then-to-from : goal.returns-then-to-from

@@ -1,6 +1,5 @@
 use Rattle.base.proofs.Choice.{picks}
 use Rattle.text.specs.Decimal.{field_by}
-use borrow.Author.Rules.{rules}
 use Rattle.text.proofs.numbers.field_by.Goals as goal
 
 pub returns-in-Number : goal.returns-in-Number

@@ -1,5 +1,5 @@
 -- The invariant: from the present place on the byte is as far as it was from the first on.
-use Prim.Native.Nat.{ℕ, ◌+◌, ◌-◌, ◌≤◌, ◌<◌}
+use Prim.Native.Nat.{ℕ, ◌+◌}
 use native.Mathlib.Omega.{arith}
 use mathlib.Core.Path.{◌≡◌, refl}
 use borrow.Author.Tests.{lt-ltb, le-ltb}
@@ -13,11 +13,11 @@ use Rattle.text.proofs.places.find.Goals as goal
 pub returns-then-line-from : goal.returns-then-line-from
 returns-then-line-from c =
     let a = c.args in
-    let line = a.line.now in (
-      if_no ℕ (ltb a.from (length line)) (length line) (a.from + before a.byte (drop a.from line)) (length line)
-          (le-ltb a.from (length line) c.if-line-from.true) refl,
-      (omega arith, λ h. omega arith),
-    )
+    let line = a.line.now in record {
+      value = if_no ℕ (ltb a.from (length line)) (length line) (a.from + before a.byte (drop a.from line)) (length line)
+          (le-ltb a.from (length line) c.if-line-from.true) refl;
+      upper_bound = (omega arith, λ h. omega arith);
+    }
 
 pub loop-at-init : goal.loop-at-init
 loop-at-init c = (omega arith, omega arith, refl, omega arith)
@@ -29,11 +29,11 @@ returns-then-line-at c =
     let l = c.loop-at in
     let i = l.invariant in
     let stop = found_here line l.at a.byte (omega arith) c.if-line-at.true in
-    let here : l.at ≡ a.from + before a.byte (drop a.from line) = omega arith in (
-      if_yes ℕ (ltb a.from (length line)) l.at (a.from + before a.byte (drop a.from line)) (length line)
-          (lt-ltb a.from (length line) i.3) here,
-      (omega arith, λ h. omega arith),
-    )
+    let here : l.at ≡ a.from + before a.byte (drop a.from line) = omega arith in record {
+      value = if_yes ℕ (ltb a.from (length line)) l.at (a.from + before a.byte (drop a.from line)) (length line)
+          (lt-ltb a.from (length line) i.3) here;
+      upper_bound = (omega arith, λ h. omega arith);
+    }
 
 pub loop-at-preserved : goal.loop-at-preserved
 loop-at-preserved c =
@@ -51,8 +51,8 @@ returns c =
     let l = c.loop-at in
     let i = l.invariant in
     let stop = found_nowhere line l.at a.byte (omega arith) in
-    let here : l.at ≡ a.from + before a.byte (drop a.from line) = omega arith in (
-      if_yes ℕ (ltb a.from (length line)) l.at (a.from + before a.byte (drop a.from line)) (length line)
-          (lt-ltb a.from (length line) i.3) here,
-      (omega arith, λ h. omega arith),
-    )
+    let here : l.at ≡ a.from + before a.byte (drop a.from line) = omega arith in record {
+      value = if_yes ℕ (ltb a.from (length line)) l.at (a.from + before a.byte (drop a.from line)) (length line)
+          (lt-ltb a.from (length line) i.3) here;
+      upper_bound = (omega arith, λ h. omega arith);
+    }

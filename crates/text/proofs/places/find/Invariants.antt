@@ -1,13 +1,8 @@
 -- The invariant: from the present place on the byte is as far as it was from the first on.
-use Prim.Native.Nat.{ℕ, ◌+◌, ◌-◌, ◌≤◌, ◌<◌}
-use native.Mathlib.Omega.{arith}
-use mathlib.Core.Path.{◌≡◌, refl}
-use borrow.Author.Tests.{lt-ltb, le-ltb}
-use lib.Dec.{ltb}
+use Prim.Native.Nat.{◌+◌, ◌-◌, ◌≤◌, ◌<◌}
+use mathlib.Core.Path.{◌≡◌}
 use lib.ListN.{length, drop}
-use Rattle.base.proofs.Choice.{if_yes, if_no}
 use Rattle.text.specs.Find.{before}
-use Rattle.text.proofs.Lines.{found_here, passed_here, found_nowhere}
 use Rattle.text.proofs.places.find.Given as goal
 
 abbrev pub invariant-loop-at : goal.invariant-loop-at

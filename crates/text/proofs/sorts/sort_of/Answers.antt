@@ -1,6 +1,5 @@
 use Rattle.base.proofs.Choice.{picks}
 use Rattle.text.specs.Sort.{sort_of}
-use borrow.Author.Rules.{rules}
 use Rattle.text.proofs.sorts.sort_of.Goals as goal
 
 pub returns-then-line-eq0 : goal.returns-then-line-eq0

@@ -1,6 +1,5 @@
 use Rattle.base.proofs.Choice.{picks}
 use Rattle.text.specs.Verdict.{narrow_of}
-use borrow.Author.Rules.{rules}
 use Rattle.text.proofs.verdicts.narrow.Goals as goal
 
 pub returns-then-number-gt-LARGEST : goal.returns-then-number-gt-LARGEST

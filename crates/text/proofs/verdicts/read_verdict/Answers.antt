@@ -1,6 +1,5 @@
 use Rattle.base.proofs.Choice.{picks}
 use Rattle.text.specs.Verdict.{verdict_of}
-use borrow.Author.Rules.{rules}
 use Rattle.text.proofs.verdicts.read_verdict.Goals as goal
 
 pub returns-then-to-from : goal.returns-then-to-from

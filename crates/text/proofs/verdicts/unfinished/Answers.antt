@@ -1,6 +1,5 @@
 use Rattle.base.proofs.Choice.{picks}
 use Rattle.text.specs.Verdict.{unfinished_of}
-use borrow.Author.Rules.{rules}
 use Rattle.text.proofs.verdicts.unfinished.Goals as goal
 
 pub returns-in-Number : goal.returns-in-Number

@@ -1,5 +1,4 @@
 use Rattle.text.specs.Verdict.{wrong_of}
-use borrow.Author.Rules.{rules}
 use Rattle.text.proofs.verdicts.wrong.Goals as goal
 
 pub returns : goal.returns

@@ -1,6 +1,5 @@
 use Rattle.base.proofs.Choice.{picks}
 use Rattle.text.specs.Verdict.{wrong_at_of}
-use borrow.Author.Rules.{rules}
 use Rattle.text.proofs.verdicts.wrong_at.Goals as goal
 
 pub returns-in-Number-offset : goal.returns-in-Number-offset

@@ -1,13 +1,8 @@
 -- The invariant: the two are the same exactly if they are from the present place on.
-use Prim.Native.Nat.{◌+◌, ◌-◌, ◌≤◌}
-use native.Mathlib.Omega.{arith}
-use mathlib.Core.Path.{◌≡◌, refl, sym, ◌∙◌}
-use borrow.Author.Tests.{eq-eqb, ne_eqb}
-use lib.Dec.{eqb}
-use lib.ListN.{length, get_or, drop}
-use Rattle.base.proofs.Choice.{and_no}
+use Prim.Native.Nat.{◌-◌, ◌≤◌}
+use mathlib.Core.Path.{◌≡◌}
+use lib.ListN.{length, drop}
 use Rattle.text.specs.Word.{same}
-use Rattle.text.proofs.Same.{same_at, same_past, same_end}
 use Rattle.text.proofs.words.equal.Given as goal
 
 abbrev pub invariant-loop-at : goal.invariant-loop-at

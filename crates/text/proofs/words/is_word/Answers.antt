@@ -1,6 +1,5 @@
 -- The part is compared where it lies in the line.
 use Rattle.base.proofs.Choice.{picks}
-use borrow.Author.Rules.{rules}
 use Rattle.text.proofs.words.is_word.Goals as goal
 
 pub returns-then-to-from : goal.returns-then-to-from
