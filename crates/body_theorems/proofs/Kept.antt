@@ -1,7 +1,7 @@
 -- What holds of an expression's scan with a verdict source between its steps: what the events have collected is what the page's lines say up
 -- to the scan's place, and the register says where the first line prefix stands. Without a verdict source nothing is asked, and so nothing
 -- need hold.
-use Prim.Native.Nat.{ℕ, ◌+◌, ◌-◌, ◌≤◌, ◌<◌}
+use Prim.Native.Nat.{ℕ, ◌+◌, ◌≤◌, ◌<◌}
 use native.Mathlib.Omega.{arith}
 use mathlib.Core.Path.{◌≡◌, refl, sym, ap, ◌∙◌}
 use mathlib.Core.Bool.{Bool, true, false, not, ◌&&◌}

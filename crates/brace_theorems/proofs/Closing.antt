@@ -1,6 +1,6 @@
 -- A scan without a verdict source closes its expressions where the rule on braces says: of an expression that stands alone, by its answer, and
 -- of those in a tag, by their events.
-use Prim.Native.Nat.{ℕ, ◌+◌, ◌-◌, ◌%◌}
+use Prim.Native.Nat.{ℕ, ◌+◌, ◌%◌}
 use native.Mathlib.Omega.{arith}
 use mathlib.Core.Path.{◌≡◌, refl, sym, ap, ◌∙◌, subst}
 use mathlib.Core.Logic.{inl, inr}

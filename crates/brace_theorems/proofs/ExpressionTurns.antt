@@ -4,11 +4,9 @@ use native.Mathlib.Omega.{arith}
 use mathlib.Core.Path.{◌≡◌, refl, sym, ap, ◌∙◌}
 use mathlib.Core.Bool.{Bool, true, false, ◌&&◌}
 use mathlib.Core.List.{List}
-use mathlib.Core.Option.{none}
 use lib.Dec.{ltb, eqb}
 use lib.ListN.{length}
 use borrow.Author.Tests.{lt-ltb, eqb-true, eqb-false}
-use Rattle.base.proofs.Tables.{◌&◌}
 use Rattle.base.specs.If.{if◌then◌else◌, among}
 use Rattle.base.proofs.Choice.{if_is, both, and_no, or_left, or_right, keyed}
 use Rattle.base.specs.Range.{within}

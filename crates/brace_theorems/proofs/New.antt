@@ -1,5 +1,5 @@
 -- A new scan of a tag or an expression without a verdict source: it has passed no brace.
-use Prim.Native.Nat.{ℕ, ◌-◌, ◌%◌}
+use Prim.Native.Nat.{ℕ, ◌%◌}
 use mathlib.Core.Path.{◌≡◌, refl}
 use mathlib.Core.Bool.{false, ◌&&◌}
 use mathlib.Core.List.{List}

@@ -7,7 +7,6 @@ use mathlib.Core.List.{List, [], ◌∷◌}
 use mathlib.Core.Option.{none, some}
 use lib.Dec.{eqb}
 use lib.ListN.{length, get_or}
-use Rattle.base.proofs.Tables.{◌&◌}
 use Rattle.base.specs.If.{among}
 use Rattle.base.specs.Range.{within}
 use Rattle.base.specs.Byte.{left_brace}

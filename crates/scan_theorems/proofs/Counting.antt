@@ -9,7 +9,7 @@ use lib.ListN.{length}
 use lib.Dec.{leb, ltb, eqb}
 use borrow.Author.Tests.{lt-ltb, ltb-true, lt-leb, eq-eqb}
 use Rattle.base.proofs.Tables.{◌&◌, found}
-use Rattle.base.specs.If.{if◌then◌else◌, among}
+use Rattle.base.specs.If.{among}
 use Rattle.base.proofs.Choice.{if_is, case, and_yes, or_left, or_right, or_yes'}
 use Rattle.base.specs.Number as number
 use Rattle.base.specs.State as state

@@ -1,6 +1,6 @@
 -- The limit of the depth is never met: a scan that began on its page has no more braces open than it has passed bytes, so that one brace
 -- more is counted (docs/DECISIONS.md, 21).
-use Prim.Native.Nat.{ℕ, ◌+◌, ◌-◌, ◌≤◌}
+use Prim.Native.Nat.{ℕ, ◌+◌, ◌≤◌}
 use native.Mathlib.Omega.{arith}
 use mathlib.Core.Path.{◌≡◌, refl, ap, ◌∙◌}
 use mathlib.Core.Bool.{Bool, true, false, ◌&&◌}

@@ -1,4 +1,3 @@
-use borrow.Author.Rules.{rules}
 use Rattle.base.specs.If.{if◌then◌else◌}
 use Rattle.base.specs.Table.{find}
 use Rattle.batch.specs.Record.{value_in}

@@ -1,4 +1,3 @@
-use borrow.Author.Rules.{rules}
 use Rattle.crossing.specs.Scans.{scan_in}
 use Rattle.crossing.specs.Inner.{lines_in}
 use Rattle.crossing.proofs.scans.lines_in.Goals as goal

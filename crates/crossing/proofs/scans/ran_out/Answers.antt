@@ -1,4 +1,3 @@
-use borrow.Author.Rules.{rules}
 use Rattle.crossing.proofs.scans.ran_out.Goals as goal
 
 pub returns : goal.returns

@@ -1,4 +1,3 @@
-use borrow.Author.Rules.{rules}
 use Rattle.crossing.specs.Scans.{scan_in}
 use Rattle.crossing.specs.Inner.{job_in, regs_in, lines_in}
 use Rattle.crossing.proofs.scans.scan_in.Goals as goal

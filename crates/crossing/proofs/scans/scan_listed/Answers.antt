@@ -1,5 +1,4 @@
 use mathlib.Core.Path.{sym}
-use borrow.Author.Rules.{rules}
 use borrow.Author.Tests.{le-leb, lt-leb}
 use Rattle.base.proofs.Choice.{and_no, and_also}
 use Rattle.crossing.specs.Scans.{scan_listed}

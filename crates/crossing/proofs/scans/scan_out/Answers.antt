@@ -1,4 +1,3 @@
-use borrow.Author.Rules.{rules}
 use Rattle.crossing.specs.Scans.{scan_out}
 use Rattle.crossing.proofs.scans.scan_out.Goals as goal
 

@@ -1,4 +1,3 @@
-use borrow.Author.Rules.{rules}
 use Rattle.crossing.proofs.scans.verdict_out.Goals as goal
 
 pub returns-in-Fine : goal.returns-in-Fine

@@ -1,4 +1,3 @@
-use borrow.Author.Rules.{rules}
 use Rattle.base.specs.If.{if◌then◌else◌}
 use Rattle.crossing.proofs.Bodies.{no_start}
 use Rattle.crossing.proofs.workers.lengths_in.Goals as goal

@@ -1,4 +1,3 @@
-use borrow.Author.Rules.{rules}
 use Rattle.crossing.proofs.workers.lengths_of.Goals as goal
 
 pub returns-in-NoPage : goal.returns-in-NoPage

@@ -1,4 +1,3 @@
-use borrow.Author.Rules.{rules}
 use Rattle.crossing.specs.Workers.{place_in}
 use Rattle.crossing.proofs.workers.place_in.Goals as goal
 

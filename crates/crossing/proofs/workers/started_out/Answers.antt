@@ -1,4 +1,3 @@
-use borrow.Author.Rules.{rules}
 use Rattle.crossing.specs.Answers.{answer_numbers}
 use Rattle.crossing.proofs.workers.started_out.Goals as goal
 

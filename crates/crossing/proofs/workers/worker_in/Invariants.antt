@@ -1,10 +1,7 @@
 use Prim.Native.Nat.{◌-◌, ◌≤◌}
-use native.Mathlib.Omega.{arith}
-use borrow.Author.Rules.{rules}
-use mathlib.Core.Path.{refl}
 use Rattle.worker.specs.Place.{beyond}
-use Rattle.crossing.specs.Workers.{place_in, numbers_at, worker_in}
-use Rattle.crossing.proofs.Tables.{Begun, begins, goes_on_lem, ends}
+use Rattle.crossing.specs.Workers.{place_in, numbers_at}
+use Rattle.crossing.proofs.Tables.{Begun}
 use Rattle.crossing.proofs.workers.worker_in.Given as goal
 
 abbrev pub invariant-loop-k : goal.invariant-loop-k

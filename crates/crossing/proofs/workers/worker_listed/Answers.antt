@@ -1,9 +1,6 @@
-use Prim.Native.Nat.{ℕ, ◌+◌, ◌-◌, ◌≤◌}
+use Prim.Native.Nat.{ℕ, ◌+◌, ◌-◌}
 use native.Mathlib.Omega.{arith}
-use borrow.Author.Rules.{rules}
-use mathlib.Core.Path.{◌≡◌, refl, sym, ap, ◌∙◌}
-use Rattle.base.proofs.Choice.{not_yes}
-use Rattle.worker.proofs.Laws.{not_no}
+use mathlib.Core.Path.{refl, sym, ap, ◌∙◌}
 use Rattle.crossing.specs.Workers.{place_listed, numbers_at, each, worker_listed}
 use Rattle.crossing.proofs.Tables.{each_fails, each_goes_on, each_none}
 use Rattle.crossing.proofs.workers.worker_listed.Goals as goal

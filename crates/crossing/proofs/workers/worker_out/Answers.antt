@@ -1,10 +1,7 @@
-use Prim.Native.Nat.{◌-◌, ◌≤◌}
 use native.Mathlib.Omega.{arith}
-use borrow.Author.Rules.{rules}
 use mathlib.Core.Path.{refl}
-use Rattle.worker.specs.Place.{place_in}
-use Rattle.crossing.specs.Workers.{beyond, place_out, worker_out}
-use Rattle.crossing.proofs.Tables.{Begun, begins, goes_on_lem, ends}
+use Rattle.crossing.specs.Workers.{worker_out}
+use Rattle.crossing.proofs.Tables.{begins, goes_on_lem, ends}
 use Rattle.crossing.proofs.workers.worker_out.Goals as goal
 
 pub loop-k-init : goal.loop-k-init

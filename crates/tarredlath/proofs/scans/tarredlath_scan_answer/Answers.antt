@@ -1,4 +1,3 @@
-use borrow.Author.Rules.{rules}
 use mathlib.Core.Path.{◌≡◌, refl, sym, ap, ◌∙◌}
 use Rattle.base.proofs.Choice.{if_yes, if_no}
 use Rattle.base.specs.If.{if◌then◌else◌}

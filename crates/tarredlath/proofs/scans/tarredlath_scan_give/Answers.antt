@@ -1,8 +1,5 @@
-use borrow.Author.Rules.{rules}
 use mathlib.Core.Path.{sym, ap, ◌∙◌}
 use Rattle.base.proofs.Choice.{if_yes, if_no}
-use Rattle.base.proofs.Choice.{not_yes}
-use Rattle.worker.proofs.Laws.{not_no}
 use Rattle.tarredlath.specs.Face.{across, give_face}
 use Rattle.tarredlath.proofs.scans.tarredlath_scan_give.Goals as goal
 

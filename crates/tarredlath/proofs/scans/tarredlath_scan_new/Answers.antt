@@ -1,4 +1,3 @@
-use borrow.Author.Rules.{rules}
 use mathlib.Core.Path.{ap}
 use Rattle.tarredlath.specs.Face.{begun}
 use Rattle.tarredlath.proofs.scans.tarredlath_scan_new.Goals as goal

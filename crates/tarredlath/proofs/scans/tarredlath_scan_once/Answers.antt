@@ -1,4 +1,3 @@
-use borrow.Author.Rules.{rules}
 use mathlib.Core.Path.{ap}
 use Rattle.tarredlath.specs.Face.{crossed}
 use Rattle.tarredlath.proofs.scans.tarredlath_scan_once.Goals as goal

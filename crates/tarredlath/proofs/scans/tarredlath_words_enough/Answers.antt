@@ -1,4 +1,3 @@
-use borrow.Author.Rules.{rules}
 use Rattle.tarredlath.proofs.scans.tarredlath_words_enough.Goals as goal
 
 pub returns : goal.returns

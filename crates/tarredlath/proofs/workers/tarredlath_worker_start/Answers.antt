@@ -1,4 +1,3 @@
-use borrow.Author.Rules.{rules}
 use mathlib.Core.Path.{ap, ◌∙◌}
 use Rattle.worker.specs.Reply.{Left}
 use Rattle.crossing.specs.Workers.{started_out}

@@ -1,4 +1,3 @@
-use borrow.Author.Rules.{rules}
 use mathlib.Core.Path.{sym, ap, ◌∙◌}
 use Rattle.base.proofs.Choice.{if_yes, if_no}
 use Rattle.worker.specs.Reply.{Left}

@@ -1,8 +1,5 @@
-use borrow.Author.Rules.{rules}
 use mathlib.Core.Path.{sym, ap, ◌∙◌}
 use Rattle.base.proofs.Choice.{if_yes, if_no}
-use Rattle.base.proofs.Choice.{not_yes}
-use Rattle.worker.proofs.Laws.{not_no}
 use Rattle.tarredlath.specs.Face.{called_across, verdict_face}
 use Rattle.tarredlath.proofs.workers.tarredlath_worker_verdict.Goals as goal
 

@@ -1,4 +1,3 @@
-use borrow.Author.Rules.{rules}
 use mathlib.Core.Path.{sym, ◌∙◌}
 use Rattle.base.proofs.Choice.{if_yes, if_no}
 use Rattle.tarredlath.specs.Face.{view_face}
