@@ -6,20 +6,20 @@ use mathlib.Core.List.{List, [], ◌∷◌}
 use mathlib.Core.Logic.{⊎_elim, inl, inr}
 use types.Run.{OneOf}
 use lib.Dec.{eqb}
-use Rattle.base.specs.If.{if◌then◌else◌, among}
+use Rattle.base.specs.If.{when◌then◌else◌, among}
 use borrow.Author.Tests.{eq-eqb, ne_eqb, le-leb, lt-leb, le-ltb, lt-ltb}
 
-pub if_yes : (A : Type 0) (b : Bool) (z x y : A) → b ≡ true → z ≡ x → z ≡ (if b then x else y)
-unfolding if◌then◌else◌
+pub if_yes : (A : Type 0) (b : Bool) (z x y : A) → b ≡ true → z ≡ x → z ≡ (when b then x else y)
+unfolding when◌then◌else◌
 if_yes A b z x y q e = rw q e
 
-pub if_no : (A : Type 0) (b : Bool) (z x y : A) → b ≡ false → z ≡ y → z ≡ (if b then x else y)
-unfolding if◌then◌else◌
+pub if_no : (A : Type 0) (b : Bool) (z x y : A) → b ≡ false → z ≡ y → z ≡ (when b then x else y)
+unfolding when◌then◌else◌
 if_no A b z x y q e = rw q e
 
 -- what holds of both choices holds of the choice
-pub if_is : (A : Type 0) (P : A → Type 0) (b : Bool) (x y : A) → (b ≡ true → P x) → (b ≡ false → P y) → P (if b then x else y)
-unfolding if◌then◌else◌
+pub if_is : (A : Type 0) (P : A → Type 0) (b : Bool) (x y : A) → (b ≡ true → P x) → (b ≡ false → P y) → P (when b then x else y)
+unfolding when◌then◌else◌
 if_is A P true x y f g = f refl
 if_is A P false x y f g = g refl
 

@@ -1,11 +1,11 @@
--- A choice by a test, and by one of several numbers. Every definition of this repository chooses with `if◌then◌else◌`, which is shut: a goal
+-- A choice by a test, and by one of several numbers. Every definition of this repository chooses with `when◌then◌else◌`, which is shut: a goal
 -- shows the choice as it was written (proofs/Choice.antt has the laws).
 use Rattle.std.specs.Prelude.{ℕ, Bool, true, false, ◌||◌, List, [], ◌∷◌, eqb}
 
-infixr 10 if◌then◌else◌
-unfoldable pub if◌then◌else◌ : {A : Type 0} → Bool → A → A → A
-if true then x else y = x
-if false then x else y = y
+infixr 10 when◌then◌else◌
+unfoldable pub when◌then◌else◌ : {A : Type 0} → Bool → A → A → A
+when true then x else y = x
+when false then x else y = y
 
 -- x is one of the numbers ks, as an arm `46 | 47 | 58 => ..` of a `match` says it
 unfoldable pub among : List ℕ → ℕ → Bool

@@ -1,7 +1,7 @@
 -- A page, as the states see it: the list of its bytes' numbers.
 use Rattle.std.specs.Prelude.{ℕ, ◌-◌, Bool, ◌&&◌, ◌||◌, List, length, get_or, ltb, eqb}
 use Rattle.base.specs.Byte.{line_feed, end_of_page}
-use Rattle.base.specs.If.{if◌then◌else◌}
+use Rattle.base.specs.If.{when◌then◌else◌}
 
 -- the longest page that is taken (docs/SCOPE.md, row 2)
 abbrev pub page_limit : ℕ
@@ -9,7 +9,7 @@ page_limit = 1048576
 
 -- the number of the byte at a place
 unfoldable pub byte_at : List ℕ → ℕ → ℕ
-byte_at page at = if ltb at (length page) then get_or page at 0 else end_of_page
+byte_at page at = when ltb at (length page) then get_or page at 0 else end_of_page
 
 -- the byte before a place is a line feed (the Rust's `previous`)
 unfoldable pub after_line_feed : List ℕ → ℕ → Bool

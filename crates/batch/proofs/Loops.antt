@@ -10,7 +10,7 @@ use lib.Dec.{ltb, eqb}
 use lib.ListN.{length, get_or, set, length-append}
 use lib.Seq.{append_snoc, get_or-append_seam, set-append_seam}
 use borrow.Author.Tests.{lt-ltb, le-ltb}
-use Rattle.base.specs.If.{if◌then◌else◌}
+use Rattle.base.specs.If.{when◌then◌else◌}
 use Rattle.base.specs.State.{done, full}
 use Rattle.base.proofs.Choice.{if_is}
 use Rattle.page.specs.declared.Checked.{Checked}
@@ -24,16 +24,16 @@ use Rattle.batch.specs.Inner.{look, begin_of, refused_look, look_of, run, check_
 
 unfoldable pub iter : {S : Type 0} → (S → Bool) → (S → S) → ℕ → S → S
 iter test step zero s = s
-iter test step (suc k) s = if test s then iter test step k (step s) else s
+iter test step (suc k) s = when test s then iter test step k (step s) else s
 
 module _ {S : Type 0} (test : S → Bool) (step : S → S) where
   pub iter_go : (k : ℕ) (s : S) → 0 < k → test s ≡ true → iter test step k s ≡ iter test step (k - 1) (step s)
-  unfolding iter if◌then◌else◌
+  unfolding iter when◌then◌else◌
   iter_go zero s h e = absurd (omega (arith, h))
   iter_go (suc k) s h e = let z : suc k - 1 ≡ k = omega arith in rw (e, z)
 
   pub iter_stop : (k : ℕ) (s : S) → test s ≡ false → iter test step k s ≡ s
-  unfolding iter if◌then◌else◌
+  unfolding iter when◌then◌else◌
   iter_stop zero s e = refl
   iter_stop (suc k) s e = rw e
 
@@ -104,10 +104,10 @@ behind m n = omega arith
 abbrev Looks : List Opening → List Opening → Type 0
 Looks pre rest =
     iter look_on (look_step (pre ++ rest)) (length rest) (look (length pre) (length pre + length rest) done)
-    ≡ (if all_counting rest then look (length pre + length rest) (length pre + length rest) done else refused_look)
+    ≡ (when all_counting rest then look (length pre + length rest) (length pre + length rest) done else refused_look)
 
 look_next : (pre rest : List Opening) (o : Opening) → Looks (pre ++ o ∷ []) rest → (b : Bool) → counting o ≡ b → Looks pre (o ∷ rest)
-unfolding iter if◌then◌else◌ all_counting look_of
+unfolding iter when◌then◌else◌ all_counting look_of
 look_next pre rest o more true e =
     rw (lt-ltb (length pre) (length pre + suc (length rest)) (omega arith), get_or-append_seam pre o rest none, e)
     (simp (append_snoc pre o rest, length-append pre (o ∷ []), behind (length pre) (length rest)) at more)
@@ -116,11 +116,11 @@ look_next pre rest o more false e =
     (iter_stop look_on (look_step (pre ++ o ∷ rest)) (length rest) refused_look refl)
 
 look_from : (pre rest : List Opening) → Looks pre rest
-unfolding iter if◌then◌else◌ all_counting
+unfolding iter when◌then◌else◌ all_counting
 look_from pre [] = simp add-zero
 look_from pre (o ∷ rest) = look_next pre rest o (look_from (pre ++ o ∷ []) rest) (counting o) refl
 
-pub looked_is : (os : List Opening) → looked_all os ≡ (if all_counting os then look (length os) (length os) done else refused_look)
+pub looked_is : (os : List Opening) → looked_all os ≡ (when all_counting os then look (length os) (length os) done else refused_look)
 unfolding looked_all
 looked_is os = simp zero-add at (look_from [] os)
 
@@ -154,13 +154,13 @@ module _ (page : List ℕ) (pre rest : List Opening) (o : Opening) (words : List
 
   by_answer : Works page (pre ++ f ∷ []) rest after (used + f.events) → (from : ℕ) (checked : Checked) (b : Bool) → eqb f.answer full ≡ b
       → goes_on (run (length pre) (length pre + suc (length rest)) used from done checked) ≡ listed
-  unfolding iter if◌then◌else◌ fill_from
+  unfolding iter when◌then◌else◌ fill_from
   by_answer more from checked true e = rw e (ap leaves (iter_stop work_on (work_step page) (length rest) _ (le-ltb (length pre + 1) (length pre + 1) (omega arith))))
   by_answer more from checked false e =
       rw e (simp (append_snoc pre f, length-append pre (f ∷ []), behind (length pre) (length rest)) at (more from checked))
 
   work_next : Works page (pre ++ f ∷ []) rest after (used + f.events) → Works page pre (o ∷ rest) words used
-  unfolding iter turn_of if◌then◌else◌
+  unfolding iter turn_of when◌then◌else◌
   work_next more from checked =
       rw (lt-ltb (length pre) (length pre + suc (length rest)) (omega arith), get_or-append_seam pre o rest none, set-append_seam pre o rest)
       (if_is Run (λ (r : Run). goes_on r ≡ listed) (ltb (length page) o.start)
@@ -184,7 +184,7 @@ work_all page os words checked = simp zero-add at (work_from page [] os words 0 
 -- ---- both: what the loops do is the definition
 
 pub done_is : (page : List ℕ) (os : List Opening) (words : List ℕ) → leaves (done_all page os words) ≡ batch_of page os words
-unfolding done_all batch_of if◌then◌else◌
+unfolding done_all batch_of when◌then◌else◌
 done_is page os words = by (all_counting os) refl
   where
     by : (b : Bool) → all_counting os ≡ b → leaves (done_all page os words) ≡ batch_of page os words

@@ -9,7 +9,7 @@ use lib.Dec.{ltb, leb, eqb}
 use lib.ListN.{length, take, drop, length-append, length-drop}
 use lib.Seq.{length-take-le}
 use borrow.Author.Tests.{ltb-false}
-use Rattle.base.specs.If.{if◌then◌else◌}
+use Rattle.base.specs.If.{when◌then◌else◌}
 use Rattle.base.specs.Table.{find}
 use Rattle.base.specs.State as state
 use Rattle.base.specs.State.{first_running}
@@ -55,11 +55,11 @@ module _ (s : Scan) where
   Few a = count a ≤ n
 
   few_refused : (m : ℕ) → count refused ≤ m
-  unfolding carried value_in find if◌then◌else◌
+  unfolding carried value_in find when◌then◌else◌
   few_refused m = none m
 
   few_events : Few (answer_of s)
-  unfolding answer_of refusal verdict_refusal carried value_in find if◌then◌else◌
+  unfolding answer_of refusal verdict_refusal carried value_in find when◌then◌else◌
   few_events =
       let k = s.tokenizer.state in
       if_is Said Few (leb first_running k) _ _ (λ e. none n)
@@ -87,7 +87,7 @@ module _ (bytes : List ℕ) (at n start construct kind flags allowance : ℕ) (w
   keeps_none s a e = record { long = refl; few = omega (arith, e) }
 
   keeps_refused : (s : Scan) → Keeps words (left s refused words)
-  unfolding carried value_in find if◌then◌else◌
+  unfolding carried value_in find when◌then◌else◌
   keeps_refused s = keeps_none s refused refl
 
   keeps_run : (s : Scan) → s.used ≡ 0 → s.tokenizer.job.words ≡ length words → Keeps words (run_of page allowance s words)
@@ -100,7 +100,7 @@ module _ (bytes : List ℕ) (at n start construct kind flags allowance : ℕ) (w
       (λ e. keeps_refused s)
 
   keeps_checked : (c : Checked) → Keeps words (ran_from (begun_if c job) page allowance words)
-  unfolding fresh_in carried value_in find if◌then◌else◌
+  unfolding fresh_in carried value_in find when◌then◌else◌
   keeps_checked (checked.Good line) = keeps_run (fresh_in line job) refl refl
   keeps_checked checked.TooLong = keeps_none _ _ refl
   keeps_checked checked.BadStart = keeps_none _ _ refl

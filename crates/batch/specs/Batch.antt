@@ -4,7 +4,7 @@
 -- event room the earlier ones left. Records past the first job answered 10 are left as lent. .. A list with anything but counting
 -- expressions and counting tags answers 12, before any record is touched."
 use Rattle.std.specs.Prelude.{ℕ, ◌+◌, ◌*◌, ◌%◌, Bool, true, false, ◌&&◌, List, [], ◌∷◌, ◌++◌, eqb, length, take, drop}
-use Rattle.base.specs.If.{if◌then◌else◌}
+use Rattle.base.specs.If.{when◌then◌else◌}
 use Rattle.base.specs.State.{done, full}
 use Rattle.base.specs.Number.{bad_call}
 use Rattle.events.specs.Words.{width}
@@ -19,8 +19,8 @@ use Rattle.batch.specs.Record.{filled_of}
 -- an expression or a tag, of a listed kind, with listed flags and no verdict source
 unfoldable pub counting : Opening → Bool
 counting o =
-    if eqb o.construct esm then false
-    else if eqb (o.flags % 2) 1 then false
+    when eqb o.construct esm then false
+    else when eqb (o.flags % 2) 1 then false
     else numbers_listed o.construct o.kind o.flags
 
 unfoldable pub all_counting : List Opening → Bool
@@ -63,9 +63,9 @@ fill_from page records used (o ∷ os) words =
     let f = record_of page o used words in
     let after = words_of page o used words in
     behind f
-    (if eqb f.answer full then batch (answered full (records + 1) (used + f.events)) os after
+    (when eqb f.answer full then batch (answered full (records + 1) (used + f.events)) os after
     else fill_from page (records + 1) (used + f.events) os after)
 
 -- the whole list; 12, and nothing is touched, where something else is asked for
 unfoldable pub batch_of : List ℕ → List Opening → List ℕ → Batch
-batch_of page os words = if all_counting os then fill_from page 0 0 os words else batch (answered bad_call 0 0) os words
+batch_of page os words = when all_counting os then fill_from page 0 0 os words else batch (answered bad_call 0 0) os words

@@ -1,7 +1,7 @@
 -- What the parts of the call do: a record filled by its case, and a turn of each of the two loops. No promise to a user of the library
 -- cites these.
 use Rattle.std.specs.Prelude.{ℕ, ◌+◌, ◌*◌, ◌≤◌, ◌<◌, ◌^◌, ◌≡◌, List, ltb, eqb, length}
-use Rattle.base.specs.If.{if◌then◌else◌}
+use Rattle.base.specs.If.{when◌then◌else◌}
 use Rattle.base.specs.State.{done, full}
 use Rattle.base.specs.Number.{bad_call}
 use Rattle.events.specs.Words.{width}
@@ -72,7 +72,7 @@ abbrev pub refused_look : Look
 refused_look = look 0 0 bad_call
 
 unfoldable pub look_of : Opening → Look → Look
-look_of o l = if counting o then look (l.at + 1) l.stop l.answer else refused_look
+look_of o l = when counting o then look (l.at + 1) l.stop l.answer else refused_look
 
 -- ---- the second loop
 
@@ -88,12 +88,12 @@ open_of page l = run 0 l.stop 0 0 l.answer (check_for page 0)
 
 abbrev pub known_after : Run → Checked → ℕ → ℕ → Run
 known_after r checked start n =
-    if ltb n start then r
+    when ltb n start then r
     else run r.at r.stop r.used start r.answer checked
 
 abbrev pub after_of : Run → Opening → Run
 after_of r o =
-    if eqb o.answer full then run (r.at + 1) (r.at + 1) (r.used + o.events) r.from full r.checked
+    when eqb o.answer full then run (r.at + 1) (r.at + 1) (r.used + o.events) r.from full r.checked
     else run (r.at + 1) r.stop (r.used + o.events) r.from r.answer r.checked
 
 -- a turn: what it gives, and the words

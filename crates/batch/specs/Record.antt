@@ -3,7 +3,7 @@
 -- docs/SCOPE.md, 'A page's openings in one call': "the answer's fields as plain numbers in the order of docs/NUMBERS.md: answer, place or
 -- end, line, column, where, note, events, steps; what an answer does not carry is 0".
 use Rattle.std.specs.Prelude.{ℕ, List, [], ◌∷◌, eqb}
-use Rattle.base.specs.If.{if◌then◌else◌}
+use Rattle.base.specs.If.{when◌then◌else◌}
 use Rattle.base.specs.Table.{find}
 use Rattle.base.specs.State.{done, nok, not_ascii, eof, unexpected, full}
 use Rattle.base.specs.Number.{bad_text}
@@ -55,7 +55,7 @@ carries =
 unfoldable pub value_in : ℕ → List ℕ → List ℕ → ℕ
 value_in field [] values = 0
 value_in field (f ∷ fields) [] = 0
-value_in field (f ∷ fields) (v ∷ values) = if eqb field f then v else value_in field fields values
+value_in field (f ∷ fields) (v ∷ values) = when eqb field f then v else value_in field fields values
 
 unfoldable pub carried : ℕ → Said → ℕ
 carried field a = value_in field (find a.number carries []) a.values

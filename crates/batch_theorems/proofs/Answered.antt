@@ -6,7 +6,7 @@ use mathlib.Core.List.{List, [], ◌∷◌}
 use lib.Dec.{eqb}
 use lib.ListN.{length, drop}
 use borrow.Author.Tests.{eq-eqb, ne_eqb}
-use Rattle.base.specs.If.{if◌then◌else◌}
+use Rattle.base.specs.If.{when◌then◌else◌}
 use Rattle.base.specs.State.{full}
 use Rattle.base.proofs.Choice.{case, both}
 use Rattle.events.specs.Words.{width}
@@ -25,7 +25,7 @@ record Counted (o : Opening) : Type 0 where
   unasked : eqb (o.flags % 2) 1 ≡ false
 
 counted : (o : Opening) → counting o ≡ true → Counted o
-unfolding counting if◌then◌else◌
+unfolding counting when◌then◌else◌
 counted o h =
     case _ (eqb o.construct esm) (λ e. clash false (rw e at h) refl)
     (λ e. case _ (eqb (o.flags % 2) 1) (λ u. clash false (rw (e, u) at h) refl) (λ u. record { listed = rw (e, u) at h; unasked = u }))
@@ -44,7 +44,7 @@ module _ (page : List ℕ) where
       }
 
   in_order : (records used : ℕ) (os : List Opening) (words : List ℕ) → all_counting os ≡ true → InOrder os (fill_from page records used os words).openings
-  unfolding fill_from all_counting if◌then◌else◌
+  unfolding fill_from all_counting when◌then◌else◌
   in_order records used [] words h = refl
   in_order records used (o ∷ os) words h =
       let b = both (counting o) (all_counting os) h in
@@ -55,9 +55,9 @@ module _ (page : List ℕ) where
       )
 
 pub every_record_is_answered : EveryRecord
-unfolding batch_of if◌then◌else◌
+unfolding batch_of when◌then◌else◌
 every_record_is_answered page os words h = rw h (in_order page 0 0 os words h)
 
 pub a_refused_list_is_untouched : RefusedList
-unfolding batch_of if◌then◌else◌
+unfolding batch_of when◌then◌else◌
 a_refused_list_is_untouched page os words h = rw h

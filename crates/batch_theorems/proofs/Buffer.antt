@@ -8,7 +8,7 @@ use mathlib.Core.List.{List, [], ◌∷◌, ◌++◌, append_assoc}
 use lib.Dec.{eqb}
 use lib.ListN.{length, take, drop, length-append, length-drop, take-append-drop}
 use lib.Seq.{length-take-le, take_at, drop-append-add, drop-drop}
-use Rattle.base.specs.If.{if◌then◌else◌}
+use Rattle.base.specs.If.{when◌then◌else◌}
 use Rattle.base.specs.State.{full}
 use Rattle.base.proofs.Choice.{case, both}
 use Rattle.events.specs.declared.Event.{Event}
@@ -128,7 +128,7 @@ module _ (page : List ℕ) (o : Opening) (used : ℕ) (words : List ℕ) (c : co
 
 list_stands : (page : List ℕ) (records used : ℕ) (os : List Opening) (words : List ℕ) → all_counting os ≡ true → used * width ≤ length words
     → Stands words used (fill_from page records used os words) (list_events page used os words)
-unfolding fill_from list_events all_counting if◌then◌else◌
+unfolding fill_from list_events all_counting when◌then◌else◌
 list_stands page records used [] words c h = stands_none words used _ [] refl h
 list_stands page records used (o ∷ os) words c h =
     let b = both (counting o) (all_counting os) c in
@@ -140,7 +140,7 @@ list_stands page records used (o ∷ os) words c h =
     (λ e. rw e (list_stands page (records + 1) (used + f.events) os after b.1 room)))
 
 pub the_buffer_is_the_lists_events : BufferIs
-unfolding batch_of if◌then◌else◌
+unfolding batch_of when◌then◌else◌
 the_buffer_is_the_lists_events page os words c =
     let s = list_stands page 0 0 os words c (omega arith) in
     rw c (omega (arith, s.counts), omega (arith, s.holds.fits), rw zero-add at s.holds.hold)

@@ -10,7 +10,7 @@ use lib.Dec.{leb, ltb}
 use lib.ListN.{length, drop}
 use lib.Seq.{take-length}
 use Rattle.base.proofs.Tables.{◌&◌, found}
-use Rattle.base.specs.If.{if◌then◌else◌, among}
+use Rattle.base.specs.If.{when◌then◌else◌, among}
 use Rattle.base.specs.Table.{find}
 use Rattle.base.specs.State.{first_running}
 use Rattle.base.proofs.Choice.{if_is}
@@ -51,7 +51,7 @@ module _ (s : Scan) where
   Counts a = Given a → count a ≡ s.used
 
   answer_counts : Counts (answer_of s)
-  unfolding answer_of refusal verdict_refusal among carried value_in find if◌then◌else◌
+  unfolding answer_of refusal verdict_refusal among carried value_in find when◌then◌else◌
   answer_counts =
       let n = s.tokenizer.state in
       if_is Said Counts (leb first_running n) _ _ (λ e g. clash _ g refl)
@@ -104,7 +104,7 @@ module _ (page : List ℕ) (steps : ℕ) (lent : List ℕ) where
   Writes b = Given (ran_from b page steps lent).answer → Wrote lent (ran_from b page steps lent) (begun_events page steps b)
 
   wrote_checked : (j : Job) → j.words ≡ length lent → (c : Checked) → Writes (begun_if c j)
-  unfolding fresh_in carried value_in find if◌then◌else◌
+  unfolding fresh_in carried value_in find when◌then◌else◌
   wrote_checked j w (checked.Good line) g = wrote_run (fresh_in line j) refl w g
   wrote_checked j w checked.TooLong g = wrote_none _ _ refl
   wrote_checked j w checked.BadStart g = wrote_none _ _ refl

@@ -3,7 +3,7 @@
 --
 -- docs/SCOPE.md, 'A page's openings in one call'.
 use Rattle.std.specs.Prelude.{ℕ, ◌+◌, ◌-◌, ◌*◌, ◌≤◌, ◌≡◌, true, false, List, [], ◌∷◌, ◌++◌, eqb, length, drop}
-use Rattle.base.specs.If.{if◌then◌else◌, among}
+use Rattle.base.specs.If.{when◌then◌else◌, among}
 use Rattle.base.specs.State.{full}
 use Rattle.base.specs.Number.{bad_call}
 use Rattle.events.specs.declared.Event.{Event}
@@ -57,7 +57,7 @@ list_events page used [] words = []
 list_events page used (o ∷ os) words =
     let f = record_of page o used words in
     opening_events page o (length (drop (used * width) words))
-    ++ (if eqb f.answer full then [] else list_events page (used + f.events) os (words_of page o used words))
+    ++ (when eqb f.answer full then [] else list_events page (used + f.events) os (words_of page o used words))
 
 -- the buffer has these events from its start on, as many as the list counts, and behind them stands what was lent
 abbrev pub BufferIs : Type 0

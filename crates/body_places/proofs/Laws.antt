@@ -6,7 +6,7 @@ use mathlib.Core.Path.{◌≡◌, refl, sym, ap, ◌∙◌}
 use mathlib.Core.Bool.{true, false}
 use mathlib.Core.List.{List, [], ◌∷◌, ◌++◌}
 use lib.ListN.{get_or}
-use Rattle.base.specs.If.{if◌then◌else◌}
+use Rattle.base.specs.If.{when◌then◌else◌}
 use Rattle.base.proofs.Choice.{if_is}
 use Rattle.base.specs.Page.{byte_at}
 use Rattle.body_places.specs.Body.{Cell, cell, cells_at, places_of, prefix_after, in_prefix, splits, spaces, split_tab, drift_at, cells_from, place_of, all_from}
@@ -38,17 +38,17 @@ module _ (page : List ℕ) (left drift at : ℕ) where
   b = byte_at page at
 
   pub skips : (n : ℕ) → 0 < n → in_prefix b left ≡ true → cells_from page left drift at n ≡ cells_from page (left - 1) drift (at + 1) (n - 1)
-  unfolding cells_from if◌then◌else◌
+  unfolding cells_from when◌then◌else◌
   skips zero h e = absurd (omega arith)
   skips (suc n) h e = rw (e, sub-one (suc n))
 
   pub parts : (n : ℕ) → 0 < n → in_prefix b left ≡ false → splits b left ≡ true → cells_from page left drift at n ≡ cells_at at (split_tab left) ++ cells_from page 0 (4 - left - 1) (at + 1) (n - 1)
-  unfolding cells_from if◌then◌else◌
+  unfolding cells_from when◌then◌else◌
   parts zero h e f = absurd (omega arith)
   parts (suc n) h e f = rw (e, f, sub-one (suc n))
 
   pub keeps : (n : ℕ) → 0 < n → in_prefix b left ≡ false → splits b left ≡ false → cells_from page left drift at n ≡ cell (at + drift_at b drift) b ∷ cells_from page (prefix_after b) (drift_at b drift) (at + 1) (n - 1)
-  unfolding cells_from if◌then◌else◌
+  unfolding cells_from when◌then◌else◌
   keeps zero h e f = absurd (omega arith)
   keeps (suc n) h e f = rw (e, f, sub-one (suc n))
 

@@ -2,7 +2,7 @@
 -- "A tab of which a line prefix takes V columns is handed over as 4 - V spaces."
 use Rattle.std.specs.Prelude.{ℕ, zero, suc, ◌+◌, ◌-◌, Bool, ◌&&◌, List, [], ◌∷◌, ◌++◌, map, get_or, ltb, eqb}
 use Rattle.base.specs.Byte.{tab, line_feed, space, right_brace}
-use Rattle.base.specs.If.{if◌then◌else◌, among}
+use Rattle.base.specs.If.{when◌then◌else◌, among}
 use Rattle.base.specs.Page.{byte_at}
 use Rattle.base.specs.Tab.{tab_size}
 
@@ -31,7 +31,7 @@ places_of cells = map (λ (c : Cell). c.place) cells
 
 -- after a line ending at most two columns are a line prefix; elsewhere none are
 abbrev pub prefix_after : ℕ → ℕ
-prefix_after b = if eqb b line_feed then 2 else 0
+prefix_after b = when eqb b line_feed then 2 else 0
 
 -- the byte belongs to a line prefix of which `left` columns may still come
 abbrev pub in_prefix : ℕ → ℕ → Bool
@@ -56,7 +56,7 @@ abbrev pub begins_run : ℕ → Bool
 begins_run b = among (line_feed ∷ right_brace ∷ []) b
 
 abbrev pub drift_at : ℕ → ℕ → ℕ
-drift_at b drift = if begins_run b then 0 else drift
+drift_at b drift = when begins_run b then 0 else drift
 
 -- The body of the n places from `at` on, where `left` columns of a line prefix may still come and places drift by so much.
 unfoldable pub cells_from : List ℕ → ℕ → ℕ → ℕ → ℕ → List Cell
@@ -66,7 +66,7 @@ cells_from page left drift at (suc n) =
     let skipped = cells_from page (left - 1) drift (at + 1) n in
     let split = cells_at at (split_tab left) ++ cells_from page 0 (tab_size - left - 1) (at + 1) n in
     let kept = cell (at + drift_at b drift) b ∷ cells_from page (prefix_after b) (drift_at b drift) (at + 1) n in
-    if in_prefix b left then skipped else if splits b left then split else kept
+    when in_prefix b left then skipped else when splits b left then split else kept
 
 -- an expression's body begins after its `{` and goes up to the place that asks
 abbrev pub expression_cells : List ℕ → ℕ → ℕ → List Cell

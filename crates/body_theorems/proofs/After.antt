@@ -3,7 +3,7 @@ use Prim.Native.Nat.{ℕ, ◌+◌}
 use mathlib.Core.Path.{◌≡◌, refl, ap, ap₂, ◌∙◌}
 use mathlib.Core.Bool.{Bool, true, false}
 use mathlib.Core.List.{List, [], ◌∷◌}
-use Rattle.base.specs.If.{if◌then◌else◌}
+use Rattle.base.specs.If.{when◌then◌else◌}
 use Rattle.base.proofs.Choice.{if_is}
 use Rattle.base.specs.Decide.{list_of}
 use Rattle.base.specs.Tab.{columns_of}
@@ -53,7 +53,7 @@ tab_then v m = tab_after m.effect (tab_next m.eat v)
 
 -- what is eaten leads into no tab
 pub still_out : (v : InTab) → columns_of v ≡ 0 → (eat : Bool) → columns_of (tab_next eat v) ≡ 0
-unfolding if◌then◌else◌
+unfolding when◌then◌else◌
 still_out v o true = refl
 still_out v o false = o
 
@@ -80,7 +80,7 @@ runs_then page at v r m = collect_on page r (events_at (point at 0 0 v) (point (
 
 one_same : (page : List ℕ) (r : Runs) (kind : ℕ) (exit : Bool) (p q : Point) → p.offset ≡ q.offset → p.tab ≡ q.tab → collect_one page r (event kind exit p) ≡ collect_one page r (event kind exit q)
 unfolding collect_one
-one_same page r kind exit p q e f = ap₂ (λ (o : ℕ) (t : InTab). if exit then collect_exit page r kind o else collect_enter r kind o t) e f
+one_same page r kind exit p q e f = ap₂ (λ (o : ℕ) (t : InTab). when exit then collect_exit page r kind o else collect_enter r kind o t) e f
 
 module _ (page : List ℕ) (here past here' past' : Point) (h : here.offset ≡ here'.offset) (ht : here.tab ≡ here'.tab) (p : past.offset ≡ past'.offset) (pt : past.tab ≡ past'.tab) where
   pub collects_same : (r : Runs) (marks : List Mark) → collect_on page r (events_at here past marks) ≡ collect_on page r (events_at here' past' marks)
@@ -96,5 +96,5 @@ pub record After (page : List ℕ) (K : ℕ → ℕ → InTab → Regs → Runs 
   pub kept : K m.next (place_then n at g m) (tab_then v m) (regs_then n at g m) (runs_then page at v r m)
 
 -- whichever way a test goes
-pub pick : {page : List ℕ} {K : ℕ → ℕ → InTab → Regs → Runs → Type 0} {n at : ℕ} {v : InTab} {g : Regs} {r : Runs} {t : Bool} {x y : Move} → (t ≡ true → After page K n at v g r x) → (t ≡ false → After page K n at v g r y) → After page K n at v g r (if t then x else y)
+pub pick : {page : List ℕ} {K : ℕ → ℕ → InTab → Regs → Runs → Type 0} {n at : ℕ} {v : InTab} {g : Regs} {r : Runs} {t : Bool} {x y : Move} → (t ≡ true → After page K n at v g r x) → (t ≡ false → After page K n at v g r y) → After page K n at v g r (when t then x else y)
 pick {page} {K} {n} {at} {v} {g} {r} {t} {x} {y} p q = if_is Move (After page K n at v g r) t x y p q

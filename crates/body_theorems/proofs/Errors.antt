@@ -8,7 +8,7 @@ use mathlib.Core.List.{List, [], ◌∷◌}
 use lib.Dec.{eqb}
 use lib.ListN.{length}
 use borrow.Author.Tests.{eq-eqb, le-ltb, lt-ltb, ltb-false, le-leb}
-use Rattle.base.specs.If.{if◌then◌else◌}
+use Rattle.base.specs.If.{when◌then◌else◌}
 use Rattle.base.proofs.Choice.{if_no, case, and_yes, and_no'}
 use Rattle.base.specs.Range.{within}
 use Rattle.base.specs.Page.{byte_at}
@@ -56,14 +56,14 @@ abbrev Lent : Scan → List ℕ → Type 0
 Lent s words = length words ≡ s.tokenizer.job.words
 
 lent_run : (page : List ℕ) (k : ℕ) (s : Scan) (words : List ℕ) → Lent s words → Lent (run_of page k s words).scan (run_of page k s words).words
-unfolding run_of if◌then◌else◌
+unfolding run_of when◌then◌else◌
 lent_run page k s words h =
     case _ (runnable s (length page) (length words) k)
     (λ e. rw e (written_long words s.used (run_events page k s) ∙ h ∙ ap (λ (j : Job). j.words) (sym (run_job page k s))))
     (λ e. rw e h)
 
 lent_give : (s : Scan) (v : Verdict) (words : List ℕ) → Lent s words → Lent (give_of s v).scan words
-unfolding give_of given_scan if◌then◌else◌
+unfolding give_of given_scan when◌then◌else◌
 lent_give s v words h = case _ (givable s v) (λ e. rw e h) (λ e. rw e h)
 
 lent_calls : (calls : List Call) (s : Scan) (words : List ℕ) → Lent s words → Lent (scan_after calls s words) (words_after calls s words)
@@ -90,7 +90,7 @@ module _ (page : List ℕ) (s : Scan) (r : Runs) (words : List ℕ) (h : Togethe
 
   -- the verdict is kept
   given_is : (give_of s (Wrong number offset)).scan ≡ given
-  unfolding give_of givable if◌then◌else◌
+  unfolding give_of givable when◌then◌else◌
   given_is = rw (and_yes _ _ (eq-eqb s.tokenizer.state state.asking a) (and_yes _ _ heard (within_range page s h.within)))
 
   -- and then decides, at the place that the lines say
@@ -101,14 +101,14 @@ module _ (page : List ℕ) (s : Scan) (r : Runs) (words : List ℕ) (h : Togethe
   error = retry_with state.verdict_error Nothing (Fault number place)
 
   decides : choice page given ≡ error
-  unfolding choice decision state_decision expression_decision esm_decision find given_scan expression_fault esm_fault within if◌then◌else◌
+  unfolding choice decision state_decision expression_decision esm_decision find given_scan expression_fault esm_fault within when◌then◌else◌
   decides =
       case _ (eqb s.tokenizer.job.construct esm)
       (λ c. rw (c, and_no' (not_ascii (byte_at page s.tokenizer.at)) false refl, places_part page (s.tokenizer.at - s.tokenizer.job.start) s.tokenizer.job.start))
       (λ c. rw (c, and_no' (not_ascii (byte_at page s.tokenizer.at)) false refl))
 
   goes : state.rests given.tokenizer.state ≡ false
-  unfolding given_scan if◌then◌else◌
+  unfolding given_scan when◌then◌else◌
   goes = case _ (eqb s.tokenizer.job.construct esm) (λ c. rw c) (λ c. rw c)
 
   -- it writes nothing, so there is room for it
@@ -137,12 +137,12 @@ module _ (page : List ℕ) (s : Scan) (r : Runs) (words : List ℕ) (h : Togethe
   looked_up = within_end page place
 
   tells : answer_of after_error ≡ said 8 (place ∷ line_of page looked_up ∷ column_in (line_at page looked_up) Outside ∷ number ∷ (s.used + 0) ∷ counted given ∷ [])
-  unfolding answer_of refusal verdict_refusal find moved given_scan if◌then◌else◌
+  unfolding answer_of refusal verdict_refusal find moved given_scan when◌then◌else◌
   tells = refl
 
   -- the place at fault is no further on than one past the byte that asked, so that it is found, and its column counted to the end
   place_inside : place ≤ s.tokenizer.at + 1
-  unfolding if◌then◌else◌
+  unfolding when◌then◌else◌
   place_inside =
       case _ (eqb s.tokenizer.job.construct esm)
       (λ c. rw (c, places_part page (s.tokenizer.at - s.tokenizer.job.start) s.tokenizer.job.start) (omega (arith, esm_within page s.tokenizer.at s.tokenizer.job.start offset)))
@@ -162,7 +162,7 @@ module _ (page : List ℕ) (s : Scan) (r : Runs) (words : List ℕ) (h : Togethe
   run_is k p = run_more page given k p goes ∙ rw step_is (run_rest page after_error (k - 1) rests_then)
 
   ran_is : (k : ℕ) → 0 < k → (run_of page k given words).answer ≡ answer_of (run_scan page k given)
-  unfolding run_of runnable if◌then◌else◌
+  unfolding run_of runnable when◌then◌else◌
   ran_is k p =
       rw (
         lt-ltb 0 k p,

@@ -9,7 +9,7 @@ use lib.Dec.{leb, eqb}
 use lib.ListN.{length}
 use borrow.Author.Tests.{lt-ltb}
 use Rattle.base.proofs.Tables.{◌&◌, Each}
-use Rattle.base.specs.If.{if◌then◌else◌, among}
+use Rattle.base.specs.If.{when◌then◌else◌, among}
 use Rattle.base.proofs.Choice.{both}
 use Rattle.base.specs.Page.{byte_at, after_line_feed}
 use Rattle.base.specs.Byte.{line_feed, space, end_of_page}
@@ -62,7 +62,7 @@ pub data BlockPhase : Type 0 where
 
 unfoldable pub block_phase_of : ℕ → BlockPhase
 block_phase_of name =
-    if leb name state.bad_call then Ended
+    when leb name state.bad_call then Ended
     else find name (
     (state.mdx_esm_start, First)
     ∷ (state.mdx_esm_word, InLine)
@@ -93,7 +93,7 @@ BlockKept page start name at v g r = (columns_of v ≡ 0) × BlockHoldsIn page s
 -- at an answer nothing is left to hold
 module _ (page : List ℕ) (start : ℕ) {n at : ℕ} {v : InTab} {g : Regs} {r : Runs} {m : Move} where
   pub block_to_end : columns_of (tab_then v m) ≡ 0 → leb m.next state.bad_call ≡ true → After page (BlockKept page start) n at v g r m
-  unfolding block_phase_of if◌then◌else◌
+  unfolding block_phase_of when◌then◌else◌
   block_to_end o h = record { kept = (o, rw h tt) }
 
 -- ---- the states
@@ -111,7 +111,7 @@ module _ (page : List ℕ) (n start at : ℕ) (v : InTab) (g : Regs) (r : Runs) 
   -- ---- the word
 
   first_letter : at ≡ start → r.cells ≡ [] → eqb b end_of_page ≡ false → Then (eat state.mdx_esm_word (Two (Enter esm) (Enter esm_data)))
-  unfolding block_phase_of find if◌then◌else◌ collect_one among
+  unfolding block_phase_of find when◌then◌else◌ collect_one among
   first_letter a p e =
       record {
         kept = rw (lt-ltb at n (inside_page e))
@@ -126,11 +126,11 @@ module _ (page : List ℕ) (n start at : ℕ) (v : InTab) (g : Regs) (r : Runs) 
   longer h = record { to = omega (arith, h.to); outside = h.outside; before = h.before }
 
   to_word : Running page start at r → eqb b end_of_page ≡ false → Then (eat state.mdx_esm_word Nothing)
-  unfolding block_phase_of find if◌then◌else◌
+  unfolding block_phase_of find when◌then◌else◌
   to_word h e = record { kept = rw (lt-ltb at n (inside_page e)) (refl, longer h) }
 
   to_inside : Running page start at r → eqb b end_of_page ≡ false → Then (eat state.mdx_esm_inside Nothing)
-  unfolding block_phase_of find if◌then◌else◌
+  unfolding block_phase_of find when◌then◌else◌
   to_inside h e = record { kept = rw (lt-ltb at n (inside_page e)) (refl, longer h) }
 
   esm_word_kept : (whole : Bool) → Running page start at r → Then (esmState.word b whole)
@@ -140,7 +140,7 @@ module _ (page : List ℕ) (n start at : ℕ) (v : InTab) (g : Regs) (r : Runs) 
   -- ---- in a line, and at the start of one
 
   line_over : Running page start at r → Then (retry state.mdx_esm_line_start (One (Exit esm_data)))
-  unfolding block_phase_of find if◌then◌else◌ collect_one among
+  unfolding block_phase_of find when◌then◌else◌ collect_one among
   line_over h =
       let w = h.before in
       record {
@@ -159,15 +159,15 @@ module _ (page : List ℕ) (n start at : ℕ) (v : InTab) (g : Regs) (r : Runs) 
   esm_inside_kept h = pick (λ e. line_over h) (λ e. to_inside h (line_there b e))
 
   at_end_lem : Whole page start at r → Then (retry state.mdx_esm_at_end Nothing)
-  unfolding block_phase_of find if◌then◌else◌
+  unfolding block_phase_of find when◌then◌else◌
   at_end_lem w = record { kept = (o, w) }
 
   look : Whole page start at r → eqb b end_of_page ≡ false → Then (retry_with state.mdx_esm_blank_line_before Nothing Save)
-  unfolding block_phase_of find if◌then◌else◌
+  unfolding block_phase_of find when◌then◌else◌
   look w e = record { kept = (o, (w, place_in_lem page at e)) }
 
   new_line : Whole page start at r → eqb b end_of_page ≡ false → Then (eat state.mdx_esm_inside (One (Enter esm_data)))
-  unfolding block_phase_of find if◌then◌else◌ collect_one among
+  unfolding block_phase_of find when◌then◌else◌ collect_one among
   new_line w e =
       record {
         kept = rw (lt-ltb at n (inside_page e)) (refl, record { to = omega arith; outside = o; before = record { from = w.from; cells = w.cells } });
@@ -177,7 +177,7 @@ module _ (page : List ℕ) (n start at : ℕ) (v : InTab) (g : Regs) (r : Runs) 
   esm_line_kept w = pick (λ e. at_end_lem w) (λ e. pick (λ f. look w (byte_there b line_feed f refl)) (λ f. new_line w e))
 
   esm_continuation_kept : Whole page start at r → at < length page → Then esmState.continuation_start
-  unfolding block_phase_of find if◌then◌else◌ collect_one among
+  unfolding block_phase_of find when◌then◌else◌ collect_one among
   esm_continuation_kept w h =
       record {
         kept = rw (lt-ltb at n (omega (arith, h, size))) (
@@ -197,15 +197,15 @@ module _ (page : List ℕ) (n start at : ℕ) (v : InTab) (g : Regs) (r : Runs) 
   Looking = Whole page start g.saved r × (g.saved < length page)
 
   to_blank : Looking → Then (eat state.mdx_esm_blank_line Nothing)
-  unfolding block_phase_of find if◌then◌else◌
+  unfolding block_phase_of find when◌then◌else◌
   to_blank a = record { kept = (refl, a) }
 
   back_at_end : Looking → Then (retry_with state.mdx_esm_at_end Nothing Restore)
-  unfolding block_phase_of find if◌then◌else◌
+  unfolding block_phase_of find when◌then◌else◌
   back_at_end a = record { kept = (refl, a.0) }
 
   back_in_line : Looking → Then (retry_with state.mdx_esm_continuation_start Nothing Restore)
-  unfolding block_phase_of find if◌then◌else◌
+  unfolding block_phase_of find when◌then◌else◌
   back_in_line a = record { kept = (refl, a) }
 
   esm_blank_kept : Looking → Then (esmState.blank_line b)
@@ -214,11 +214,11 @@ module _ (page : List ℕ) (n start at : ℕ) (v : InTab) (g : Regs) (r : Runs) 
   -- ---- the question
 
   esm_end_kept : Whole page start at r → Then esmState.at_end
-  unfolding block_phase_of find if◌then◌else◌
+  unfolding block_phase_of find when◌then◌else◌
   esm_end_kept w = record { kept = (o, w) }
 
   in_next_line : Whole page start at r → eqb b end_of_page ≡ false → (number : ℕ) → Then (retry_with state.mdx_esm_continuation_start Nothing (Last number))
-  unfolding block_phase_of find if◌then◌else◌
+  unfolding block_phase_of find when◌then◌else◌
   in_next_line w e number = record { kept = (o, (w, place_in_lem page at e)) }
 
   esm_verdict_kept : (v : Verdict) (after : Bool) (place : ℕ) → Whole page start at r → Then (esmState.verdict v b after place)
@@ -237,7 +237,7 @@ module _ (page : List ℕ) (t : Tokenizer) (v : InTab) (r : Runs) (size : length
   now name e = subst (λ (x : ℕ). BlockHoldsIn page t.job.start t.at t.regs r (block_phase_of x)) e k.1
 
   rows : Each Next t.state (esm_states page t (byte_at page t.at))
-  unfolding block_phase_of find if◌then◌else◌
+  unfolding block_phase_of find when◌then◌else◌
   rows =
       let n = t.job.length in
       let s = t.job.start in

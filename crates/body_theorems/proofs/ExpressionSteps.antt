@@ -9,7 +9,7 @@ use mathlib.Core.List.{List, [], ◌++◌, append-nil, append_assoc}
 use lib.Dec.{ltb, eqb}
 use lib.ListN.{length}
 use borrow.Author.Tests.{eqb-true, eqb-false, lt-ltb, ltb-true, ltb-false, eq-eqb, ne_eqb}
-use Rattle.base.specs.If.{if◌then◌else◌, among}
+use Rattle.base.specs.If.{when◌then◌else◌, among}
 use Rattle.base.proofs.Choice.{case, both, or_left, or_right, or_cases, or_no, and_no', and_yes}
 use Rattle.base.specs.Page.{byte_at}
 use Rattle.base.specs.Byte.{tab, line_feed, space, left_brace, right_brace, end_of_page}
@@ -64,11 +64,11 @@ key_not b k j e f = rw e f
 
 -- where places begin anew
 run_begins : (b drift : ℕ) → begins_run b ≡ true → drift_at b drift ≡ 0
-unfolding if◌then◌else◌
+unfolding when◌then◌else◌
 run_begins b drift e = rw e
 
 run_goes_on : (b drift : ℕ) → eqb b line_feed ≡ false → eqb b right_brace ≡ false → drift_at b drift ≡ drift
-unfolding among if◌then◌else◌
+unfolding among when◌then◌else◌
 run_goes_on b drift e f = rw (e, f)
 
 line_begins_run : (b : ℕ) → eqb b line_feed ≡ true → begins_run b ≡ true
@@ -87,7 +87,7 @@ stops_begin b depth e f =
 
 -- the columns that a prefix takes of a tab
 taken_is : (size : ℕ) → size < 2 → columns_of (expression.taken size) + size ≡ 2
-unfolding if◌then◌else◌
+unfolding when◌then◌else◌
 taken_is size h = case _ (eqb size 0) (λ e. rw e (omega (arith, eqb-true size 0 e))) (λ e. rw e (let z = eqb-false size 0 e in not_zero size h z))
   where
     not_zero : (size : ℕ) → size < 2 → (size ≡ 0 → ⊥) → 1 + size ≡ 2
@@ -130,14 +130,14 @@ module _ (page : List ℕ) (asks : Bool) (n at : ℕ) (v : InTab) (g : Regs) (r 
 
   -- the slice of one byte
   one_long : (w : ℕ) → w ≡ 0 → length (slice_of page at w (at + 1)) ≡ 1
-  unfolding slice_of if◌then◌else◌
+  unfolding slice_of when◌then◌else◌
   one_long w e =
       let u : at + 1 - at ≡ 1 = omega arith in
       rw (e, u) (bytes_count page 1 at)
 
   -- `{`
   pub start_kept : (token : ℕ) → In state.mdx_expression_start → Then (expression.start b token)
-  unfolding phase_of find if◌then◌else◌ collect_one among
+  unfolding phase_of find when◌then◌else◌ collect_one among
   start_kept token p =
       pick (λ e. record { kept = rw (lt-ltb at n (inside_page (byte_there b left_brace e refl))) (λ a. (nothing_yet page (at + 1) at _ _ refl, record { prefix = (p a).prefix; depth = (p a).depth })) }) (λ e. to_end page asks refl)
 
@@ -153,7 +153,7 @@ module _ (page : List ℕ) (asks : Bool) (n at : ℕ) (v : InTab) (g : Regs) (r 
   -- ---- before data
 
   line_ended : In state.mdx_expression_before → eqb b line_feed ≡ true → Then (eat state.mdx_expression_eol_after (Two (Enter line_ending) (Leave line_ending)))
-  unfolding phase_of find if◌then◌else◌ collect_one among
+  unfolding phase_of find when◌then◌else◌ collect_one among
   line_ended k e =
       record {
         kept = rw (lt-ltb at n (inside_page (byte_there b line_feed e refl))) (λ a.
@@ -177,7 +177,7 @@ module _ (page : List ℕ) (asks : Bool) (n at : ℕ) (v : InTab) (g : Regs) (r 
       }
 
   data_entered : In state.mdx_expression_before → eqb b end_of_page ≡ false → eqb b line_feed ≡ false → expression.closes b g.depth ≡ false → Then (retry state.mdx_expression_inside (One (Enter expression_data)))
-  unfolding phase_of find if◌then◌else◌ collect_one among
+  unfolding phase_of find when◌then◌else◌ collect_one among
   data_entered k f l c =
       record {
         kept = λ a.
@@ -199,8 +199,8 @@ module _ (page : List ℕ) (asks : Bool) (n at : ℕ) (v : InTab) (g : Regs) (r 
   closed p token back a = to_aside page asks a p
 
   -- the `}` that asks or closes
-  brace_met : (x : Bool) (token back : ℕ) → asks ≡ x → aside back ≡ true → In state.mdx_expression_before → eqb b right_brace ≡ true → Then (if x then retry state.asking Nothing else expression.close token back)
-  unfolding phase_of find if◌then◌else◌
+  brace_met : (x : Bool) (token back : ℕ) → asks ≡ x → aside back ≡ true → In state.mdx_expression_before → eqb b right_brace ≡ true → Then (when x then retry state.asking Nothing else expression.close token back)
+  unfolding phase_of find when◌then◌else◌
   brace_met true token back y a k e =
       let (q, rest) = k y in
       let w = no_tab b left (key_not b right_brace tab (eqb-true b right_brace e) refl) in
@@ -216,7 +216,7 @@ module _ (page : List ℕ) (asks : Bool) (n at : ℕ) (v : InTab) (g : Regs) (r 
 
   -- where it is over it is not empty: what ends it is no data
   data_over : In state.mdx_expression_inside → expression.stops b g.depth ≡ true → Then (retry state.mdx_expression_before (One (Exit expression_data)))
-  unfolding phase_of find if◌then◌else◌ collect_one among
+  unfolding phase_of find when◌then◌else◌ collect_one among
   data_over k e =
       record {
         kept = λ a.
@@ -241,7 +241,7 @@ module _ (page : List ℕ) (asks : Bool) (n at : ℕ) (v : InTab) (g : Regs) (r 
     h = omega (arith, q.from, q.to)
 
     no_prefix : prefix_after b ≡ 0
-    unfolding if◌then◌else◌
+    unfolding when◌then◌else◌
     no_prefix = rw e
 
     -- what is to be shown of the next place, behind which no prefix may come
@@ -307,16 +307,16 @@ module _ (page : List ℕ) (asks : Bool) (n at : ℕ) (v : InTab) (g : Regs) (r 
         (λ l. next_passed o z (omega (arith, l)))
 
   passed : In state.mdx_expression_inside → eqb b line_feed ≡ false → eqb b right_brace ≡ false → eqb b end_of_page ≡ false → Then (eat state.mdx_expression_inside Nothing)
-  unfolding phase_of find if◌then◌else◌
+  unfolding phase_of find when◌then◌else◌
   passed k e x f = record { kept = rw (lt-ltb at n (inside_page f)) (λ a. (goes_on_lem (k a).0 e x _ refl, (k a).1)) }
 
   -- with a verdict source no brace is counted, and none is data in the middle of a run
   deeper : asks ≡ false → Then (eat_with state.mdx_expression_inside Nothing Deeper)
-  unfolding phase_of find if◌then◌else◌
+  unfolding phase_of find when◌then◌else◌
   deeper y = record { kept = λ a. clash _ a y }
 
   shallower : In state.mdx_expression_inside → eqb b right_brace ≡ true → expression.stops b g.depth ≡ false → Then (eat_with state.mdx_expression_inside Nothing Shallower)
-  unfolding phase_of find if◌then◌else◌
+  unfolding phase_of find when◌then◌else◌
   shallower k x e =
       record {
         kept = λ a.
@@ -337,7 +337,7 @@ module _ (page : List ℕ) (asks : Bool) (n at : ℕ) (v : InTab) (g : Regs) (r 
   -- ---- after a line ending, and in a line prefix
 
   prefix_begins : In state.mdx_expression_eol_after → Then (retry_with state.mdx_expression_prefix (One (Enter line_prefix)) PrefixBegins)
-  unfolding phase_of find if◌then◌else◌ collect_one among
+  unfolding phase_of find when◌then◌else◌ collect_one among
   prefix_begins k =
       record {
         kept = λ a.
@@ -355,7 +355,7 @@ module _ (page : List ℕ) (asks : Bool) (n at : ℕ) (v : InTab) (g : Regs) (r 
       }
 
   line_begins : In state.mdx_expression_eol_after → is_space_or_tab b ≡ false → Then (retry state.mdx_expression_before Nothing)
-  unfolding phase_of find if◌then◌else◌
+  unfolding phase_of find when◌then◌else◌
   line_begins k e =
       record {
         kept = λ a.
@@ -377,7 +377,7 @@ module _ (page : List ℕ) (asks : Bool) (n at : ℕ) (v : InTab) (g : Regs) (r 
 
   -- a space of the prefix
   prefix_passed : In state.mdx_expression_prefix → g.prefix < 2 → eqb b space ≡ true → Then (eat_with state.mdx_expression_prefix Nothing PrefixGoesOn)
-  unfolding phase_of find if◌then◌else◌
+  unfolding phase_of find when◌then◌else◌
   prefix_passed k d e =
       record {
         kept = rw (lt-ltb at n (inside_page (byte_there b space e refl)), lt-ltb g.prefix 2 d) (λ a.
@@ -406,7 +406,7 @@ module _ (page : List ℕ) (asks : Bool) (n at : ℕ) (v : InTab) (g : Regs) (r 
 
   -- a tab that the prefix ends in
   prefix_in_tab_lem : In state.mdx_expression_prefix → g.prefix < 2 → eqb b tab ≡ true → Then (retry_with state.mdx_expression_prefix Nothing (PrefixInTab (expression.taken g.prefix)))
-  unfolding phase_of find if◌then◌else◌
+  unfolding phase_of find when◌then◌else◌
   prefix_in_tab_lem k d e =
       record {
         kept = λ a.
@@ -431,7 +431,7 @@ module _ (page : List ℕ) (asks : Bool) (n at : ℕ) (v : InTab) (g : Regs) (r 
 
   -- the prefix is as long as it may be, or the byte is none of it
   prefix_over : In state.mdx_expression_prefix → expression.prefix_goes_on b g.prefix ≡ false → expression.prefix_in_tab b g.prefix ≡ false → Then (retry_with state.mdx_expression_before (One (Exit line_prefix)) PrefixEnds)
-  unfolding phase_of find if◌then◌else◌ collect_one among
+  unfolding phase_of find when◌then◌else◌ collect_one among
   prefix_over k e f =
       record {
         kept = λ a.
@@ -473,7 +473,7 @@ module _ (page : List ℕ) (asks : Bool) (n at : ℕ) (v : InTab) (g : Regs) (r 
   -- ---- the verdict
 
   brace_taken : In state.mdx_expression_verdict → (number : ℕ) → Then (eat_with state.mdx_expression_inside (One (Enter expression_data)) (Last number))
-  unfolding phase_of find if◌then◌else◌ collect_one among
+  unfolding phase_of find when◌then◌else◌ collect_one among
   brace_taken k number =
       let (y, q, rest) = k in
       let h = q.held in
@@ -503,7 +503,7 @@ module _ (page : List ℕ) (asks : Bool) (n at : ℕ) (v : InTab) (g : Regs) (r 
       }
 
   pub verdict_kept : (heard : Verdict) (place token back : ℕ) → aside back ≡ true → In state.mdx_expression_verdict → Then (expression.verdict heard place token back)
-  unfolding phase_of find if◌then◌else◌
+  unfolding phase_of find when◌then◌else◌
   verdict_kept Fine place token back a k = closed (λ z. k.2) token back a
   verdict_kept (Unfinished number) place token back a k = brace_taken k number
   verdict_kept (Wrong number offset) place token back a k = to_end page asks refl

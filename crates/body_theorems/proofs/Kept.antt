@@ -10,7 +10,7 @@ use lib.Dec.{leb, eqb}
 use lib.ListN.{length}
 use borrow.Author.Tests.{eqb-true, eqb-false, ne_eqb, leb-true}
 use Rattle.base.proofs.Tables.{◌&◌, found}
-use Rattle.base.specs.If.{if◌then◌else◌}
+use Rattle.base.specs.If.{when◌then◌else◌}
 use Rattle.base.proofs.Choice.{if_is, case}
 use Rattle.base.specs.Range.{within}
 use Rattle.base.proofs.Ranges.{above}
@@ -122,7 +122,7 @@ pub data Phase : Type 0 where
 
 unfoldable pub phase_of : ℕ → Phase
 phase_of name =
-    if leb name state.bad_call then Over
+    when leb name state.bad_call then Over
     else find name (
     (state.mdx_expression_before, Before)
     ∷ (state.mdx_expression_inside, Inside)
@@ -176,7 +176,7 @@ module _ (page : List ℕ) (asks : Bool) {n at : ℕ} {v : InTab} {g : Regs} {r 
 
   -- at an answer nothing is left to hold
   pub to_end : leb m.next state.bad_call ≡ true → After page (Kept page asks) n at v g r m
-  unfolding phase_of if◌then◌else◌
+  unfolding phase_of when◌then◌else◌
   to_end h = record { kept = rw h tt }
 
 -- no state of a tag has a line prefix or an open brace
@@ -206,12 +206,12 @@ module _ (page : List ℕ) (at body joint : ℕ) (s : Seam page at body joint) w
   seam_stays h = record { none = λ j. absurd (h j); some = λ j. let k = s.some j in (k.0, omega (arith, k.1), k.2, k.3, k.4) }
 
   pub seam_begins : body < at → left_at page body at ≡ 2 → drift_here page body at ≡ 0 → Seam page at body (first_joint joint at)
-  unfolding if◌then◌else◌
+  unfolding when◌then◌else◌
   seam_begins h l d =
       case _ (eqb joint 0)
       (λ e. rw e (record { none = λ j. absurd (omega arith); some = λ j. (omega arith, omega arith, (s.none (eqb-true joint 0 e)).0, l, d) }))
       (λ e. rw e s)
 
   pub seam_there : body < at → first_joint joint at ≡ 0 → ⊥
-  unfolding if◌then◌else◌
+  unfolding when◌then◌else◌
   seam_there h = case _ (eqb joint 0) (λ e. rw e (λ j. omega arith)) (λ e. rw e (λ j. eqb-false joint 0 e j))

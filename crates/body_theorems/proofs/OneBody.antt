@@ -8,7 +8,7 @@ use lib.Dec.{eqb}
 use lib.ListN.{length, drop, length-drop}
 use lib.Seq.{length-take-le}
 use borrow.Author.Tests.{eqb-true, eqb-false}
-use Rattle.base.specs.If.{if◌then◌else◌}
+use Rattle.base.specs.If.{when◌then◌else◌}
 use Rattle.base.proofs.Choice.{case, both, or_cases}
 use Rattle.base.specs.State as state
 use Rattle.base.specs.Table.{find}
@@ -40,7 +40,7 @@ use Rattle.body_theorems.proofs.Together.{Together, together_run}
 
 module _ (page : List ℕ) (s : Scan) (r : Runs) (h : Together page s r) where
   pub together_given : (v : Verdict) → s.tokenizer.state ≡ state.asking → verdict_in_range v ≡ true → Together page (given_scan s v) r
-  unfolding given_scan phase_of block_phase_of find if◌then◌else◌
+  unfolding given_scan phase_of block_phase_of find when◌then◌else◌
   together_given v a g =
       record {
         within = within_given page s v h.within a g;
@@ -49,7 +49,7 @@ module _ (page : List ℕ) (s : Scan) (r : Runs) (h : Together page s r) where
       }
 
   together_give : (v : Verdict) → Together page (give_of s v).scan r
-  unfolding give_of givable if◌then◌else◌
+  unfolding give_of givable when◌then◌else◌
   together_give v =
       case _ (givable s v)
       (λ e.
@@ -58,7 +58,7 @@ module _ (page : List ℕ) (s : Scan) (r : Runs) (h : Together page s r) where
       (λ e. rw e h)
 
   together_ran : (k : ℕ) (words : List ℕ) → Together page (run_of page k s words).scan (collect_on page r (call_events (run page k) s words))
-  unfolding run_of if◌then◌else◌
+  unfolding run_of when◌then◌else◌
   together_ran k words = case _ (runnable s (length page) (length words) k) (λ e. rw e (together_run page k s r h)) (λ e. rw e h)
 
 pub together_calls : (page : List ℕ) (calls : List Call) (s : Scan) (words : List ℕ) (r : Runs) → OverPage page calls → Together page s r → Together page (scan_after calls s words) (collect_on page r (events_after calls s words))
@@ -74,7 +74,7 @@ at_rest : Rest no_regs
 at_rest = record { prefix = refl; depth = refl }
 
 together_fresh : (page : List ℕ) (j : Job) → job_in_range j ≡ true → length page ≡ j.length → Together page (fresh_scan page j) no_runs
-unfolding fresh_in phase_of block_phase_of find if◌then◌else◌
+unfolding fresh_in phase_of block_phase_of find when◌then◌else◌
 together_fresh page j h l =
     record {
       within = within_fresh page j h l;
@@ -113,19 +113,19 @@ module _ (page : List ℕ) (s : Scan) (c : eqb s.tokenizer.job.construct esm ≡
       sym (rw e at (beyond page body joint q.0 (at - joint)) ∙ rw (q.3, q.4, empty (cells_from page 2 0 joint (at - joint)) o) (append-nil _) ∙ q.2)
 
   expression_body : Seam page at body joint → body_cells page s ≡ expression_cells page body at
-  unfolding body_cells if◌then◌else◌
+  unfolding body_cells when◌then◌else◌
   expression_body k =
       case _ (eqb joint 0)
       (λ e. case _ (only_prefix page at at) (λ o. rw (c, e, o) (sym (k.none (eqb-true joint 0 e)).0)) (λ o. rw (c, e, o)))
       (λ e. case _ (only_prefix page joint at) (λ o. rw (c, e, o) (behind_the_seam k (λ j. eqb-false joint 0 e j) o)) (λ o. rw (c, e, o)))
 
   expression_lines : line_cells page s ≡ expression_cells page body at
-  unfolding if◌then◌else◌
+  unfolding when◌then◌else◌
   expression_lines = rw c
 
   -- a verdict that is kept is not applied
   expression_held : (r : Runs) → Together page s r → asks_in s.tokenizer.state s.tokenizer.job.construct ≡ true → Held page at body joint r
-  unfolding phase_of find if◌then◌else◌
+  unfolding phase_of find when◌then◌else◌
   expression_held r h a =
       or_cases _ (eqb s.tokenizer.state state.asking) _ a
       (λ e. (rw (eqb-true s.tokenizer.state state.asking e) at (h.expression c)).1.held)
@@ -136,15 +136,15 @@ module _ (page : List ℕ) (s : Scan) (c : eqb s.tokenizer.job.construct esm ≡
   from = s.tokenizer.job.start
 
   block_body : body_cells page s ≡ part page from s.tokenizer.at
-  unfolding body_cells if◌then◌else◌
+  unfolding body_cells when◌then◌else◌
   block_body = rw (c, sym (nothing page s.tokenizer.at s.tokenizer.at (omega arith)))
 
   block_lines : line_cells page s ≡ part page from s.tokenizer.at
-  unfolding if◌then◌else◌
+  unfolding when◌then◌else◌
   block_lines = rw c
 
   block_held : (r : Runs) → Together page s r → asks_in s.tokenizer.state s.tokenizer.job.construct ≡ true → Whole page from s.tokenizer.at r
-  unfolding block_phase_of find if◌then◌else◌
+  unfolding block_phase_of find when◌then◌else◌
   block_held r h a =
       or_cases _ (eqb s.tokenizer.state state.asking) _ a
       (λ e. rw (eqb-true s.tokenizer.state state.asking e) at (h.block c).1)

@@ -9,7 +9,7 @@ use lib.Dec.{leb}
 use lib.ListN.{length, get_or}
 use lib.Seq.{sets, sets-eq, drop-cons, take-append_seam, length-sets}
 use borrow.Author.Tests.{le-leb, leb-true}
-use Rattle.base.specs.If.{if◌then◌else◌}
+use Rattle.base.specs.If.{when◌then◌else◌}
 use Rattle.base.proofs.Choice.{if_yes, if_no, if_is, both}
 use Rattle.base.specs.Number as number
 use Rattle.body_places.specs.Body.{Cell, bytes_of, expression_cells, bytes_from, part_cells}
@@ -37,12 +37,12 @@ bytes_there page (suc n) at h =
     (ap (λ (l : List ℕ). get_or page at 0 ∷ l) (rw (← add-one at) (bytes_there page n (at + 1) (omega arith))))
 
 piece_there : (page : List ℕ) (n at : ℕ) → at + n ≤ length page → piece_of page at n ≡ bytes_of (part_cells page at n)
-unfolding if◌then◌else◌
+unfolding when◌then◌else◌
 piece_there page n at h = rw (le-leb (at + n) (length page) h) (bytes_there page n at h ∙ sym (bytes_at (bytes_from page at n) at))
 
 -- what was copied to the front is read there
 copied_there : (scratch bytes : List ℕ) → length bytes ≤ length scratch → piece_of (sets scratch 0 bytes) 0 (length bytes) ≡ bytes
-unfolding if◌then◌else◌
+unfolding when◌then◌else◌
 copied_there scratch bytes h =
     rw (le-leb (0 + length bytes) (length (sets scratch 0 bytes)) (omega (arith, length-sets scratch 0 bytes)))
     (rw (sets-eq bytes scratch 0 (omega arith)) (take-append_seam bytes _))

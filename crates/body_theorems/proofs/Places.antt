@@ -8,7 +8,7 @@ use mathlib.Core.List.{List, [], ◌∷◌, ◌++◌, append_assoc, append-nil}
 use lib.Dec.{eqb}
 use lib.ListN.{length, length-append}
 use borrow.Author.Tests.{ne_eqb}
-use Rattle.base.specs.If.{if◌then◌else◌}
+use Rattle.base.specs.If.{when◌then◌else◌}
 use Rattle.base.proofs.Choice.{case, if_is}
 use Rattle.base.specs.Page.{byte_at}
 use Rattle.body_places.specs.Body.{Cell, cell, cells_at, places_of, prefix_after, in_prefix, splits, spaces, split_tab, drift_at, cells_from, expression_cells, bytes_from, part_cells, all_from}
@@ -80,19 +80,19 @@ module _ (page : List ℕ) where
   -- ---- slices
 
   pub slice_outside : (from to v : ℕ) → v ≡ 0 → run_of page from v to ≡ part from to
-  unfolding slice_of if◌then◌else◌
+  unfolding slice_of when◌then◌else◌
   slice_outside from to v e = rw e
 
   -- a tab that was split, and nothing else yet
   pub slice_tab : (at v : ℕ) → 0 < v → slice_of page at v (at + 1) ≡ spaces (4 - v)
-  unfolding slice_of bytes_from if◌then◌else◌
+  unfolding slice_of bytes_from when◌then◌else◌
   slice_tab at v h =
       let e : at + 1 - (at + 1) ≡ 0 = omega arith in
       rw (ne_eqb v 0 (λ z. omega arith), e) (append-nil (spaces (4 - v)))
 
   -- one more byte of a run that is not empty
   pub slice_more : (from at v : ℕ) → from < at → slice_of page from v (at + 1) ≡ slice_of page from v at ++ (byte_at page at ∷ [])
-  unfolding slice_of if◌then◌else◌
+  unfolding slice_of when◌then◌else◌
   slice_more from at v h =
       case _ (eqb v 0) (λ e. rw e (bytes_more from at (omega arith)))
       (λ e. rw e (ap (λ (l : List ℕ). spaces (4 - v) ++ l) (bytes_more (from + 1) at (omega arith)) ∙ sym (append_assoc (spaces (4 - v)) _ _)))
@@ -107,10 +107,10 @@ module _ (page : List ℕ) where
 
   -- how many columns of a line prefix may still come behind a byte, and how far places drift there
   abbrev left_behind : ℕ → ℕ → ℕ
-  left_behind b left = if in_prefix b left then left - 1 else if splits b left then 0 else prefix_after b
+  left_behind b left = when in_prefix b left then left - 1 else when splits b left then 0 else prefix_after b
 
   abbrev drift_behind : ℕ → ℕ → ℕ → ℕ
-  drift_behind b left drift = if in_prefix b left then drift else if splits b left then 4 - left - 1 else drift_at b drift
+  drift_behind b left drift = when in_prefix b left then drift else when splits b left then 4 - left - 1 else drift_at b drift
 
   -- the same behind n places
   abbrev left_after : ℕ → ℕ → ℕ → ℕ
@@ -129,7 +129,7 @@ module _ (page : List ℕ) where
   drift_here from at = drift_after 0 0 from (at - from)
 
   split : (m n left drift at : ℕ) → cells_from page left drift at (m + n) ≡ cells_from page left drift at m ++ cells_from page (left_after left at m) (drift_after left drift at m) (at + m) n
-  unfolding cells_from if◌then◌else◌
+  unfolding cells_from when◌then◌else◌
   split zero n left drift at = rw (zero-add, add-zero)
   split (suc m) n left drift at =
       let b = byte_at page at in
@@ -191,43 +191,43 @@ module _ (page : List ℕ) where
     -- a byte of the body is passed
     module _ (e : in_prefix b left ≡ false) (f : splits b left ≡ false) where
       pub cells_grow : expression_cells page from (at + 1) ≡ expression_cells page from at ++ (cell (at + drift_at b drift) b ∷ [])
-      unfolding cells_from if◌then◌else◌
+      unfolding cells_from when◌then◌else◌
       cells_grow = one_more_lem _ (rw (e, f))
 
       pub left_grows : left_at from (at + 1) ≡ prefix_after b
-      unfolding if◌then◌else◌
+      unfolding when◌then◌else◌
       left_grows = left_beyond ∙ rw (e, f)
 
       pub drift_grows : drift_here from (at + 1) ≡ drift_at b drift
-      unfolding if◌then◌else◌
+      unfolding when◌then◌else◌
       drift_grows = drift_beyond ∙ rw (e, f)
 
     -- a tab is passed of which a prefix has taken some columns
     module _ (e : in_prefix b left ≡ false) (f : splits b left ≡ true) where
       pub cells_split : expression_cells page from (at + 1) ≡ expression_cells page from at ++ cells_at at (split_tab left)
-      unfolding cells_from if◌then◌else◌
+      unfolding cells_from when◌then◌else◌
       cells_split = one_more_lem _ (rw (e, f) (append-nil (cells_at at (split_tab left))))
 
       pub left_over : left_at from (at + 1) ≡ 0
-      unfolding if◌then◌else◌
+      unfolding when◌then◌else◌
       left_over = left_beyond ∙ rw (e, f)
 
       pub drift_begins : drift_here from (at + 1) ≡ 4 - left - 1
-      unfolding if◌then◌else◌
+      unfolding when◌then◌else◌
       drift_begins = drift_beyond ∙ rw (e, f)
 
     -- a space of a line prefix is passed
     module _ (e : in_prefix b left ≡ true) where
       pub cells_stay : expression_cells page from (at + 1) ≡ expression_cells page from at ++ []
-      unfolding cells_from if◌then◌else◌
+      unfolding cells_from when◌then◌else◌
       cells_stay = one_more_lem _ (rw e)
 
       pub left_falls : left_at from (at + 1) ≡ left - 1
-      unfolding if◌then◌else◌
+      unfolding when◌then◌else◌
       left_falls = left_beyond ∙ rw e
 
       pub drift_stays : drift_here from (at + 1) ≡ drift
-      unfolding if◌then◌else◌
+      unfolding when◌then◌else◌
       drift_stays = drift_beyond ∙ rw e
 
 -- where nothing drifts, nothing begins to

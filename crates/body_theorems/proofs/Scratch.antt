@@ -9,7 +9,7 @@ use lib.Dec.{leb, eqb}
 use lib.ListN.{length, length-append}
 use borrow.Author.Tests.{leb-false}
 use Rattle.base.specs.Byte.{line_feed}
-use Rattle.base.specs.If.{if◌then◌else◌}
+use Rattle.base.specs.If.{when◌then◌else◌}
 use Rattle.base.proofs.Choice.{if_is, case}
 use Rattle.base.specs.Page.{byte_at}
 use Rattle.body_places.specs.Body.{Cell, cells_at, prefix_after, in_prefix, splits, spaces, drift_at, cells_from, expression_cells}
@@ -34,7 +34,7 @@ module _ (page : List ℕ) where
   Most n left drift at credit = 2 * length (cells_from page left drift at n) ≤ 3 * n + credit
 
   behind : (n drift at b : ℕ) → ((left credit : ℕ) → Credit left credit → Most n left drift at credit) → Most n (prefix_after b) drift at 1
-  unfolding if◌then◌else◌
+  unfolding when◌then◌else◌
   behind n drift at b f = case _ (eqb b line_feed) (λ e. rw e (f 2 1 two)) (λ e. rw e (let m = f 0 0 none in omega (arith, m)))
 
   split_long : (k at : ℕ) (rest : List Cell) → length (cells_at at (spaces k) ++ rest) ≡ k + length rest

@@ -9,7 +9,7 @@ use lib.Dec.{leb, eqb}
 use lib.ListN.{length}
 use borrow.Author.Tests.{eqb-true}
 use Rattle.base.proofs.Tables.{◌&◌, Each}
-use Rattle.base.specs.If.{if◌then◌else◌}
+use Rattle.base.specs.If.{when◌then◌else◌}
 use Rattle.base.proofs.Choice.{case}
 use Rattle.base.specs.Range.{within}
 use Rattle.base.proofs.Ranges.{within_is}
@@ -27,7 +27,7 @@ use Rattle.body_theorems.proofs.After.{After, pick}
 use Rattle.body_theorems.proofs.Kept.{Rest, Kept, aside, high_aside, in_tag, to_aside, to_end}
 use Rattle.body_theorems.proofs.ExpressionSteps.{start_kept, before_kept, inside_kept, eol_kept, prefix_kept, verdict_kept}
 
-either : (page : List ℕ) (K : ℕ → ℕ → InTab → Regs → Runs → Type 0) (n at : ℕ) (v : InTab) (g : Regs) (r : Runs) (t : Bool) (x y : Move) → After page K n at v g r x → After page K n at v g r y → After page K n at v g r (if t then x else y)
+either : (page : List ℕ) (K : ℕ → ℕ → InTab → Regs → Runs → Type 0) (n at : ℕ) (v : InTab) (g : Regs) (r : Runs) (t : Bool) (x y : Move) → After page K n at v g r x → After page K n at v g r y → After page K n at v g r (when t then x else y)
 either page K n at v g r t x y p q = pick (λ h. p) (λ h. q)
 
 ruleset asides = (either, to_aside, refl)

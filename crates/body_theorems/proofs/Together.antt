@@ -4,7 +4,7 @@ use mathlib.Core.Path.{◌≡◌, refl}
 use mathlib.Core.Bool.{true, false}
 use mathlib.Core.List.{List}
 use lib.Dec.{eqb}
-use Rattle.base.specs.If.{if◌then◌else◌}
+use Rattle.base.specs.If.{when◌then◌else◌}
 use Rattle.base.proofs.Choice.{case}
 use Rattle.base.specs.State as state
 use Rattle.base.specs.Decide.{retry, list_of}
@@ -73,7 +73,7 @@ module _ (page : List ℕ) (s : Scan) (r : Runs) (h : Together page s r) (going 
   together_step = record { within = within_step page s h.within going; expression = in_expression; block = in_block }
 
 pub together_run : (page : List ℕ) (k : ℕ) (s : Scan) (r : Runs) → Together page s r → Together page (run_scan page k s) (collect_on page r (run_events page k s))
-unfolding run_scan run_events if◌then◌else◌
+unfolding run_scan run_events when◌then◌else◌
 together_run page zero s r h = h
 together_run page (suc k) s r h =
     case _ (state.rests s.tokenizer.state) (λ e. rw e h)

@@ -1,7 +1,7 @@
 -- The body as the events say it: `util/mdx_collect.rs`, which the crate calls wherever it asks. What stands between the enter and the exit of a
 -- run of data or of a line ending belongs to the body; an expression's body begins behind its marker. docs/SCOPE.md, 'Body' and 'Tabs'.
 use Rattle.std.specs.Prelude.{ℕ, ◌+◌, ◌-◌, Bool, List, [], ◌∷◌, ◌++◌, eqb}
-use Rattle.base.specs.If.{if◌then◌else◌, among}
+use Rattle.base.specs.If.{when◌then◌else◌, among}
 use Rattle.base.specs.Kind.{expression_marker, line_ending, expression_data, esm_data}
 use Rattle.base.specs.Tab.{columns_of, tab_size}
 use Rattle.base.specs.declared.InTab.{InTab}
@@ -13,7 +13,7 @@ use Rattle.events.specs.declared.Event.{Event}
 -- that point already, and 4 - v spaces stand for what is left of it.
 unfoldable pub slice_of : List ℕ → ℕ → ℕ → ℕ → List ℕ
 slice_of page from v to =
-    if eqb v 0 then bytes_from page from (to - from)
+    when eqb v 0 then bytes_from page from (to - from)
     else spaces (tab_size - v) ++ bytes_from page (from + 1) (to - (from + 1))
 
 -- a run of it: its bytes stand one after the other from where it was entered, which is all that the crate's list of stops says of them
@@ -39,17 +39,17 @@ is_collected kind = among (line_ending ∷ expression_data ∷ esm_data ∷ []) 
 -- what an enter and an exit of a kind at an offset do
 abbrev pub collect_enter : Runs → ℕ → ℕ → InTab → Runs
 collect_enter r kind offset tab =
-    if eqb kind expression_marker then runs [] offset tab
-    else if is_collected kind then runs r.cells offset tab
+    when eqb kind expression_marker then runs [] offset tab
+    else when is_collected kind then runs r.cells offset tab
     else r
 
 abbrev pub collect_exit : List ℕ → Runs → ℕ → ℕ → Runs
 collect_exit page r kind offset =
-    if is_collected kind then runs (r.cells ++ run_of page r.entered (columns_of r.tab) offset) r.entered r.tab else r
+    when is_collected kind then runs (r.cells ++ run_of page r.entered (columns_of r.tab) offset) r.entered r.tab else r
 
 -- one event more
 unfoldable pub collect_one : List ℕ → Runs → Event → Runs
-collect_one page r e = if e.exit then collect_exit page r e.kind e.offset else collect_enter r e.kind e.offset e.tab
+collect_one page r e = when e.exit then collect_exit page r e.kind e.offset else collect_enter r e.kind e.offset e.tab
 
 -- events on top of what the ones before them collected, first to last
 abbrev pub collect_on : List ℕ → Runs → List Event → Runs

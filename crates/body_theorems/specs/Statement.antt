@@ -1,7 +1,7 @@
 -- The body three ways, for an auditor to read: as `collect` hands it over, as the page's lines say it, and as the events say it. For every scan
 -- that calls gave they are the same. A verdict that says error is placed by it.
 use Rattle.std.specs.Prelude.{ℕ, ◌+◌, ◌-◌, ◌<◌, ◌≡◌, true, List, [], ◌∷◌, eqb, length}
-use Rattle.base.specs.If.{if◌then◌else◌}
+use Rattle.base.specs.If.{when◌then◌else◌}
 use Rattle.base.specs.Range.{within}
 use Rattle.base.specs.State.{asking}
 use Rattle.base.specs.declared.Verdict.TheVariants.{Wrong}
@@ -25,7 +25,7 @@ use Rattle.body_theorems.specs.Events.{event_cells, event_body}
 -- or of a tab are a line prefix, not body, and the rest of that tab is spaces. A block of ESM has no line prefixes.
 abbrev pub line_cells : List ℕ → Scan → List Cell
 line_cells page s =
-    if eqb s.tokenizer.job.construct esm then part_cells page s.tokenizer.job.start (s.tokenizer.at - s.tokenizer.job.start)
+    when eqb s.tokenizer.job.construct esm then part_cells page s.tokenizer.job.start (s.tokenizer.at - s.tokenizer.job.start)
     else expression_cells page s.tokenizer.regs.body s.tokenizer.at
 
 abbrev pub line_body : List ℕ → Scan → List ℕ

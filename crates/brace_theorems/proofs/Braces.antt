@@ -12,7 +12,7 @@ use lib.Dec.{ltb, eqb}
 use lib.ListN.{length, get_or, drop, length-take, length-drop, get_or-eq_default}
 use lib.Seq.{take-suc, get_or-drop}
 use borrow.Author.Tests.{eqb-true, eqb-false, eq-eqb, ne_eqb, lt-ltb, le-ltb}
-use Rattle.base.specs.If.{if◌then◌else◌}
+use Rattle.base.specs.If.{when◌then◌else◌}
 use Rattle.base.proofs.Choice.{if_is, case, and_no, and_no'}
 use Rattle.base.specs.Byte.{left_brace, right_brace}
 use Rattle.brace_theorems.specs.Braces.{how_many, between, even_between, closes, ClosingOffset, NeverCloses, first_of, closing_of}
@@ -34,7 +34,7 @@ module _ (page : List ℕ) (brace : ℕ) where
     nothing : o ≡ none → NeverCloses page brace
 
   found : (c n : ℕ) → length page ≤ c + n → ((d : ℕ) → d < c → closes page brace d ≡ false) → Finds (first_of page brace c n)
-  unfolding if◌then◌else◌
+  unfolding when◌then◌else◌
   found c zero l h =
       record {
         first = λ d e. let z : ◌≡◌ {A = ℕ} 0 1 = cc in absurd (omega arith);
@@ -72,7 +72,7 @@ module _ (page : List ℕ) (brace : ℕ) where
 -- ---- byte by byte
 
 -- a byte more is one more of its number
-count_more : (b : ℕ) (bytes : List ℕ) (x : ℕ) → how_many b (bytes ++ (x ∷ [])) ≡ how_many b bytes + (if eqb x b then 1 else 0)
+count_more : (b : ℕ) (bytes : List ℕ) (x : ℕ) → how_many b (bytes ++ (x ∷ [])) ≡ how_many b bytes + (when eqb x b then 1 else 0)
 count_more b [] x = omega arith
 count_more b (y ∷ bytes) x = omega (arith, count_more b bytes x)
 
@@ -139,7 +139,7 @@ module _ (page : List ℕ) (brace at depth : ℕ) (p : Passed page brace at dept
 
   -- or the byte is passed
   pub passed_more : (next : ℕ) → at < length page → (eqb b right_brace && eqb depth 0) ≡ false
-      → (if eqb b left_brace then 1 else 0) + depth ≡ (if eqb b right_brace then 1 else 0) + next → Passed page brace (at + 1) next
+      → (when eqb b left_brace then 1 else 0) + depth ≡ (when eqb b right_brace then 1 else 0) + next → Passed page brace (at + 1) next
   passed_more next l e d =
       let m = between_more page brace at p.behind l in
       let bytes = between page brace at in

@@ -6,7 +6,7 @@ use mathlib.Core.List.{List, [], ◌∷◌, ◌++◌}
 use lib.Dec.{eqb}
 use lib.ListN.{length}
 use borrow.Author.Tests.{eqb-true, le-leb, ltb-false}
-use Rattle.base.specs.If.{if◌then◌else◌}
+use Rattle.base.specs.If.{when◌then◌else◌}
 use Rattle.base.proofs.Choice.{case, and_no}
 use Rattle.base.specs.Number as number
 use Rattle.base.specs.State as state
@@ -49,7 +49,7 @@ module _ (page : List ℕ) where
 
   -- a run that is refused makes no step
   run_first : (k : ℕ) (calls : List Call) (s : Scan) (lent : List ℕ) → Silent page s → ((x : Scan) (words : List ℕ) → Silent page x → Runs calls x words) → Runs (run page k ∷ calls) s lent
-  unfolding Runs run_of if◌then◌else◌
+  unfolding Runs run_of when◌then◌else◌
   run_first k calls s lent h rest =
       case _ (runnable s (length page) (length lent) k)
       (λ e.
@@ -63,7 +63,7 @@ module _ (page : List ℕ) where
       (λ e. rw e (rest s lent h))
 
   give_first : (v : Verdict) (calls : List Call) (s : Scan) (lent : List ℕ) → Silent page s → Runs calls s lent → Runs (give v ∷ calls) s lent
-  unfolding Runs give_of if◌then◌else◌
+  unfolding Runs give_of when◌then◌else◌
   give_first v calls s lent h r = rw (unheard s v h) r
 
   pub one_run : (calls : List Call) (s : Scan) (lent : List ℕ) → OverPage page calls → Silent page s → Runs calls s lent
@@ -73,7 +73,7 @@ module _ (page : List ℕ) where
 
 -- a scan that is not paused rests
 pub not_paused : (s : Scan) → ((answer_of s).number ≡ number.paused → ⊥) → rests s.tokenizer.state ≡ true
-unfolding answer_of if◌then◌else◌
+unfolding answer_of when◌then◌else◌
 not_paused s h =
     case _ (rests s.tokenizer.state) (λ e. e)
     (λ e. absurd (h (rw (le-leb state.first_running s.tokenizer.state (ltb-false s.tokenizer.state state.first_running e)) refl)))

@@ -10,7 +10,7 @@ use mathlib.Core.Option.{Option, none, some}
 use lib.Dec.{eqb}
 use lib.ListN.{get_or}
 use borrow.Author.Tests.{eqb-true, eq-eqb}
-use Rattle.base.specs.If.{if◌then◌else◌}
+use Rattle.base.specs.If.{when◌then◌else◌}
 use Rattle.base.proofs.Choice.{case, both, and_yes, or_cases, or_yes, or_yes'}
 use Rattle.base.specs.Range.{within}
 use Rattle.base.specs.State as state
@@ -40,11 +40,11 @@ use Rattle.brace_theorems.proofs.Ways.{OfEveryRest, every_way}
 -- ---- what a scan answers
 
 done_said : (s : Scan) → s.tokenizer.state ≡ state.done → DoneAt s.tokenizer.at (answer_of s)
-unfolding answer_of find if◌then◌else◌
+unfolding answer_of find when◌then◌else◌
 done_said s e = rw e (refl, refl)
 
 eof_said : (s : Scan) → s.tokenizer.state ≡ state.eof → ((answer_of s).number ≡ state.eof) × (where_of (answer_of s) ≡ s.tokenizer.regs.site) × (get_or (answer_of s).values 0 0 ≡ s.tokenizer.at)
-unfolding answer_of refusal find if◌then◌else◌
+unfolding answer_of refusal find when◌then◌else◌
 eof_said s e = rw e (refl, refl, refl)
 
 ends_said : (s : Scan) → ends_inside s.tokenizer ≡ true → EndsAt s.tokenizer.at (answer_of s)
@@ -188,7 +188,7 @@ module _
     back_done = rw new.fresh refl
 
     expression_first : construct ≡ expression → s.tokenizer.state ≡ state.mdx_expression_start
-    unfolding fresh_in if◌then◌else◌
+    unfolding fresh_in when◌then◌else◌
     expression_first c = rw (new.fresh, c) refl
 
     tag_ruled : Tag page start (answer_of (run_scan page k s)) (run_events page k s)

@@ -7,7 +7,7 @@ use mathlib.Core.List.{List}
 use lib.Dec.{ltb, eqb}
 use lib.ListN.{length}
 use borrow.Author.Tests.{lt-ltb, eqb-true, eqb-false}
-use Rattle.base.specs.If.{if◌then◌else◌, among}
+use Rattle.base.specs.If.{when◌then◌else◌, among}
 use Rattle.base.proofs.Choice.{if_is, both, and_no, or_left, or_right, keyed}
 use Rattle.base.specs.Range.{within}
 use Rattle.base.specs.Byte.{left_brace, right_brace, line_feed, space, end_of_page}
@@ -38,14 +38,14 @@ use Rattle.brace_theorems.proofs.TagTurns.{return_outside, aside, left_alone}
 
 -- one for a test that holds, none for one that does not
 abbrev one : Bool → ℕ
-one t = if t then 1 else 0
+one t = when t then 1 else 0
 
 one_yes : (t : Bool) → t ≡ true → one t ≡ 1
-unfolding if◌then◌else◌
+unfolding when◌then◌else◌
 one_yes t e = rw e refl
 
 one_no : (t : Bool) → t ≡ false → one t ≡ 0
-unfolding if◌then◌else◌
+unfolding when◌then◌else◌
 one_no t e = rw e refl
 
 module _ (page : List ℕ) (t : Tokenizer) (held : Held page t) where
@@ -83,7 +83,7 @@ module _ (page : List ℕ) (t : Tokenizer) (held : Held page t) where
     -- past a byte that does not close it
     passes : (next : ℕ) → eqb b end_of_page ≡ false → (eqb b right_brace && eqb depth 0) ≡ false
         → one (eqb b left_brace) + depth ≡ one (eqb b right_brace) + next → Passed page (brace_of t) (next_place at true t.job.length) next
-    unfolding if◌then◌else◌
+    unfolding when◌then◌else◌
     passes next e f d =
         let l = place_in_lem page at e in
         let same = byte_in page at l in
@@ -91,12 +91,12 @@ module _ (page : List ℕ) (t : Tokenizer) (held : Held page t) where
 
     -- a byte that is no brace
     passes_other : eqb b end_of_page ≡ false → eqb b left_brace ≡ false → eqb b right_brace ≡ false → Passed page (brace_of t) (next_place at true t.job.length) depth
-    unfolding if◌then◌else◌
+    unfolding when◌then◌else◌
     passes_other e l r = passes depth e (and_no (eqb b right_brace) _ r) (rw (l, r) refl)
 
     -- at the page's end: nothing closed it
     cut_off : Bytes page → eqb b end_of_page ≡ true → Turn page t (refuse state.eof in_expression 0)
-    unfolding moved if◌then◌else◌
+    unfolding moved when◌then◌else◌
     cut_off bytes e =
         let end = end_is_end page at bytes e in
         ends refl (record { was = was; now = refl; closing = passed_ends page (brace_of t) at depth passed end; place = refl; end = end })
@@ -110,7 +110,7 @@ module _ (page : List ℕ) (t : Tokenizer) (held : Held page t) where
 
     -- at the `}` that closes
     closed : is_return t.regs.back ≡ true → expression.closes b depth ≡ true → Turn page t (expression.close (token_of t) t.regs.back)
-    unfolding moved if◌then◌else◌
+    unfolding moved when◌then◌else◌
     closed h c =
         let r = return_outside t.regs.back h in
         let e = both (eqb b right_brace) (eqb depth 0) c in
@@ -132,7 +132,7 @@ module _ (page : List ℕ) (t : Tokenizer) (held : Held page t) where
 
     -- a run of data begins
     data_begins : Turn page t (retry state.mdx_expression_inside (One (Enter kind.expression_data)))
-    unfolding moved within among if◌then◌else◌
+    unfolding moved within among when◌then◌else◌
     data_begins = goes_on_lem _ refl refl refl refl refl passed
 
     -- *(expression_text | expression), and the `}` that closes
@@ -150,12 +150,12 @@ module _ (page : List ℕ) (t : Tokenizer) (held : Held page t) where
 
     -- a run of data ends
     data_ends : Turn page t (retry state.mdx_expression_before (One (Exit kind.expression_data)))
-    unfolding moved within among if◌then◌else◌
+    unfolding moved within among when◌then◌else◌
     data_ends = goes_on_lem _ refl refl refl refl refl passed
 
     -- no limit is met: no more braces are open than bytes are passed
     one_more_lem : at < length page → length page ≤ page_limit → one_more depth page_limit ≡ depth + 1
-    unfolding if◌then◌else◌
+    unfolding when◌then◌else◌
     one_more_lem l s = rw (lt-ltb depth page_limit (omega (arith, passed_depth page (brace_of t) at depth passed))) refl
 
     -- a brace more
@@ -192,7 +192,7 @@ module _ (page : List ℕ) (t : Tokenizer) (held : Held page t) where
 
     -- after a line ending: a line prefix, or not
     pub eol_turns : Turn page t (expression.eol_after b)
-    unfolding moved within among if◌then◌else◌
+    unfolding moved within among when◌then◌else◌
     eol_turns =
         if_is Move (Turn page t) (is_space_or_tab b) _ _ (λ e. goes_on_lem _ refl refl refl refl refl passed) (λ e. goes_on_lem _ refl refl refl refl refl passed)
 
@@ -203,11 +203,11 @@ module _ (page : List ℕ) (t : Tokenizer) (held : Held page t) where
         goes_on_lem _ refl refl refl refl refl (passes_other (byte_there b space e refl) (keyed b space left_brace k refl) (keyed b space right_brace k refl))
 
     prefix_in_tab_lem : Turn page t (retry_with state.mdx_expression_prefix Nothing (PrefixInTab (expression.taken t.regs.prefix)))
-    unfolding moved within among if◌then◌else◌
+    unfolding moved within among when◌then◌else◌
     prefix_in_tab_lem = goes_on_lem _ refl refl refl refl refl passed
 
     prefix_ends : Turn page t (retry_with state.mdx_expression_before (One (Exit kind.line_prefix)) PrefixEnds)
-    unfolding moved within among if◌then◌else◌
+    unfolding moved within among when◌then◌else◌
     prefix_ends = goes_on_lem _ refl refl refl refl refl passed
 
     pub prefix_turns : Turn page t (expression.prefix b t.regs.prefix)
@@ -221,7 +221,7 @@ module _ (page : List ℕ) (t : Tokenizer) (held : Held page t) where
   opening = eat_with state.mdx_expression_before (Three (Enter (token_of t)) (Enter kind.expression_marker) (Leave kind.expression_marker)) Open
 
   pub opens : length page ≡ t.job.length → inside t.state ≡ false → eqb b left_brace ≡ true → Begun page t (moved t opening)
-  unfolding moved within if◌then◌else◌
+  unfolding moved within when◌then◌else◌
   opens size was e =
       let l = place_in_lem page at (byte_there b left_brace e refl) in
       let next = lt-ltb at t.job.length (omega (arith, l, size)) in

@@ -8,7 +8,7 @@ use lib.Dec.{eqb}
 use lib.ListN.{get_or}
 use borrow.Author.Tests.{eqb-true, eq-eqb}
 use Rattle.base.proofs.Tables.{◌&◌}
-use Rattle.base.specs.If.{if◌then◌else◌, among}
+use Rattle.base.specs.If.{when◌then◌else◌, among}
 use Rattle.base.proofs.Choice.{if_is, case, both, and_no, and_no'}
 use Rattle.base.specs.Byte.{left_brace}
 use Rattle.base.specs.Kind as kind
@@ -47,11 +47,11 @@ differ k token n y = case _ (eqb k token) (λ e. clash (among expression_kinds k
 
 module _ (test : Event → Bool) (e : Event) (events : List Event) where
   pub first_here : test e ≡ true → first_at test (e ∷ events) ≡ some e.offset
-  unfolding first_at if◌then◌else◌
+  unfolding first_at when◌then◌else◌
   first_here h = rw h refl
 
   pub first_later : test e ≡ false → first_at test (e ∷ events) ≡ first_at test events
-  unfolding first_at if◌then◌else◌
+  unfolding first_at when◌then◌else◌
   first_later h = rw h refl
 
 -- one past the closing offset, if there is one

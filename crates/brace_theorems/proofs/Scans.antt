@@ -8,7 +8,7 @@ use mathlib.Core.Option.{none, some}
 use lib.Dec.{ltb, eqb}
 use lib.ListN.{length, get_or, get_or-eq_default}
 use borrow.Author.Tests.{eqb-true, eq-eqb, ltb-true, ltb-false, lt-leb}
-use Rattle.base.specs.If.{if◌then◌else◌}
+use Rattle.base.specs.If.{when◌then◌else◌}
 use Rattle.base.proofs.Choice.{case, both, and_no, and_no'}
 use Rattle.base.specs.Byte.{left_brace}
 use Rattle.base.specs.Kind as kind
@@ -110,7 +110,7 @@ module _ (page : List ℕ) (bytes : Bytes page) where
 
     -- there is room for what it decides, since it would be full otherwise
     carried : carried_out s m ≡ m
-    unfolding step_scan moved if◌then◌else◌
+    unfolding step_scan moved when◌then◌else◌
     carried = case _ (lacks s m) (λ l. clash true refl (rw l at u)) (λ l. rw l refl)
 
     step_moved : (step_scan page s).tokenizer ≡ moved t m
@@ -166,7 +166,7 @@ module _ (page : List ℕ) (bytes : Bytes page) where
 
   pub outcome : (k : ℕ) (s : Scan) → Going page s → Settled (run_scan page k s)
       → Outcome page s.tokenizer (run_events page k s) (ends_inside (run_scan page k s).tokenizer)
-  unfolding run_scan run_events if◌then◌else◌
+  unfolding run_scan run_events when◌then◌else◌
   outcome zero s g e = at_rest s g e.rests
   outcome (suc k) s g e =
       case _ (rests s.tokenizer.state) (λ r. rw r (at_rest s g r))
@@ -207,7 +207,7 @@ module _ (page : List ℕ) (bytes : Bytes page) where
 
   pub ending : (brace k : ℕ) (s : Scan) → Going page s → Alone brace s.tokenizer → Settled (run_scan page k s)
       → Ending page brace (run_scan page k s).tokenizer
-  unfolding run_scan if◌then◌else◌
+  unfolding run_scan when◌then◌else◌
   ending brace zero s g a e = clash (inside s.tokenizer.state) a.within (resting s e.rests)
   ending brace (suc k) s g a e =
       case _ (rests s.tokenizer.state) (λ r. clash (inside s.tokenizer.state) a.within (resting s r))
@@ -218,7 +218,7 @@ module _ (page : List ℕ) (bytes : Bytes page) where
 
   -- the first step passes its `{`
   start_decides : (t : Tokenizer) → t.state ≡ state.mdx_expression_start → eqb (byte_at page t.at) left_brace ≡ true → decision page t (byte_at page t.at) ≡ eat_with state.mdx_expression_before (Three (Enter (token_of t)) (Enter kind.expression_marker) (Leave kind.expression_marker)) Open
-  unfolding decision state_decision expression_decision find within if◌then◌else◌
+  unfolding decision state_decision expression_decision find within when◌then◌else◌
   start_decides t e b = rw (and_no' (not_ascii (byte_at page t.at)) (takes_ascii t.state) (rw e refl), e, b) refl
 
   module _ (s : Scan) (g : Going page s) (e : s.tokenizer.state ≡ state.mdx_expression_start) (back : s.tokenizer.regs.back ≡ state.done) (h : get_or page s.tokenizer.at 0 ≡ left_brace) where
@@ -243,7 +243,7 @@ module _ (page : List ℕ) (bytes : Bytes page) where
     alone u = rw (step_moved s g runs u) (record { within = opened.now; from = opened.brace; back = opened.back ∙ back })
 
     pub expression_ends : (k : ℕ) → Settled (run_scan page k s) → Ending page s.tokenizer.at (run_scan page k s).tokenizer
-    unfolding run_scan if◌then◌else◌
+    unfolding run_scan when◌then◌else◌
     expression_ends zero x = clash (rests s.tokenizer.state) x.rests runs
     expression_ends (suc k) x =
         let o : Settled (run_scan page k (step_scan page s)) = rw runs at x in

@@ -7,7 +7,7 @@ use mathlib.Core.List.{List}
 use lib.Dec.{eqb}
 use borrow.Author.Tests.{eqb-true}
 use Rattle.base.proofs.Tables.{◌&◌, Each}
-use Rattle.base.specs.If.{if◌then◌else◌, among}
+use Rattle.base.specs.If.{when◌then◌else◌, among}
 use Rattle.base.proofs.Choice.{if_is, and_no, or_cases, or_left, or_right, not_yes}
 use Rattle.base.specs.Range.{within}
 use Rattle.base.proofs.Ranges.{within_is, all_hold}
@@ -66,7 +66,7 @@ pub data Aside (m : Move) : Type 0 where
   aside : inside m.next ≡ false → eqb m.next state.eof ≡ false → depth_stays m.effect ≡ true → other_marks (list_of m.marks) ≡ true → Aside m
   unended : (site note : ℕ) → eqb site in_expression ≡ false → m ≡ refuse state.eof site note → Aside m
 
-either : (t : Bool) (x y : Move) → Aside x → Aside y → Aside (if t then x else y)
+either : (t : Bool) (x y : Move) → Aside x → Aside y → Aside (when t then x else y)
 either t x y p q = if_is Move Aside t x y (λ h. p) (λ h. q)
 
 pub return_outside : (back : ℕ) → is_return back ≡ true → (inside back ≡ false) × (eqb back state.eof ≡ false)

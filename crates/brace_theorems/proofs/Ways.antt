@@ -9,7 +9,7 @@ use mathlib.Core.List.{List, [], ◌∷◌, ◌++◌, append-nil}
 use lib.Dec.{eqb}
 use lib.ListN.{length}
 use borrow.Author.Tests.{lt-ltb, eqb-true}
-use Rattle.base.specs.If.{if◌then◌else◌}
+use Rattle.base.specs.If.{when◌then◌else◌}
 use Rattle.base.proofs.Choice.{case}
 use Rattle.base.specs.State as state
 use Rattle.base.specs.State.{rests}
@@ -86,7 +86,7 @@ module _ (bytes : List ℕ) (at n start construct kind flags words : ℕ) (s : S
 
 -- a scan that is full answers so
 full_said : (s : Scan) → s.tokenizer.state ≡ state.full → (answer_of s).number ≡ state.full
-unfolding answer_of refusal find if◌then◌else◌
+unfolding answer_of refusal find when◌then◌else◌
 full_said s e = rw e refl
 
 not_filled : (s : Scan) → NotFull (answer_of s) → Unfilled s
@@ -106,7 +106,7 @@ calls_of construct P of bytes at n start kind flags lent s even e calls over unp
 module _ (page : List ℕ) (k : ℕ) where
   -- a scan that does not ask is told nothing
   untold : (s : Scan) (v : Verdict) → Silent page s → told_scan s v ≡ s
-  unfolding if◌then◌else◌
+  unfolding when◌then◌else◌
   untold s v h =
       case _ (eqb s.tokenizer.state state.asking)
       (λ e. clash (needs_verdict s.tokenizer.state) (rw (eqb-true s.tokenizer.state state.asking e) refl) h.counts.free)
@@ -146,23 +146,23 @@ module _ (bytes : List ℕ) (at n start construct kind flags : ℕ) (lent : List
   scan = fresh_in line (job_of construct kind flags n start (length lent))
 
   begun : begin_of bytes at n start construct kind flags (length lent) ≡ started scan
-  unfolding begin_of if◌then◌else◌
+  unfolding begin_of when◌then◌else◌
   begun = rw (listed, good) refl
 
   -- the call is a new scan and a run
   whole_is : whole_of bytes at n start construct kind flags lent ≡ run_of page steps scan lent
-  unfolding single_of if◌then◌else◌
+  unfolding single_of when◌then◌else◌
   whole_is = rw (lt-ltb 0 steps (omega arith), begun) refl
 
   can_run : runnable scan (length page) (length lent) steps ≡ true
   can_run = runs bytes at n start construct kind flags (length lent) scan begun steps (omega arith)
 
   answer_is : (run_of page steps scan lent).answer ≡ answer_of (run_scan page steps scan)
-  unfolding run_of if◌then◌else◌
+  unfolding run_of when◌then◌else◌
   answer_is = rw can_run refl
 
   list_is : call_events (run page steps) scan lent ++ [] ≡ run_events page steps scan
-  unfolding if◌then◌else◌
+  unfolding when◌then◌else◌
   list_is = rw can_run (append-nil (run_events page steps scan))
 
   events_are : events_in (run_of page steps scan lent).words 0 (run_of page steps scan lent).scan.used ≡ run_events page steps scan

@@ -7,12 +7,12 @@
 use Rattle.std.specs.Prelude.{ℕ, zero, suc, ◌+◌, ◌-◌, ◌<◌, ◌≡◌, Bool, true, false, ◌&&◌, List, [], ◌∷◌, ltb, eqb, length, get_or, take, drop}
 use Rattle.std.proofs.Math.Option.{Option, none, some}
 use Rattle.base.specs.Byte.{left_brace, right_brace}
-use Rattle.base.specs.If.{if◌then◌else◌}
+use Rattle.base.specs.If.{when◌then◌else◌}
 
 -- how many of the bytes are b
 abbrev pub how_many : ℕ → List ℕ → ℕ
 how_many b [] = 0
-how_many b (x ∷ bytes) = (if eqb x b then 1 else 0) + how_many b bytes
+how_many b (x ∷ bytes) = (when eqb x b then 1 else 0) + how_many b bytes
 
 -- the bytes strictly between two offsets
 abbrev pub between : List ℕ → ℕ → ℕ → List ℕ
@@ -40,7 +40,7 @@ NeverCloses page brace = (c : ℕ) → closes page brace c ≡ false
 -- the first of the n offsets from c on that closes it
 abbrev pub first_of : List ℕ → ℕ → ℕ → ℕ → Option ℕ
 first_of page brace c zero = none
-first_of page brace c (suc n) = if closes page brace c then some c else first_of page brace (c + 1) n
+first_of page brace c (suc n) = when closes page brace c then some c else first_of page brace (c + 1) n
 
 -- the closing offset of the `{` at `brace`, if it has one
 unfoldable pub closing_of : List ℕ → ℕ → Option ℕ

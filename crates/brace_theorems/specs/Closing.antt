@@ -7,7 +7,7 @@
 use Rattle.std.specs.Prelude.{ℕ, ◌+◌, ◌-◌, ◌*◌, ◌%◌, ◌≤◌, ◌≡◌, ◌↔◌, ◌⊎◌, Bool, true, false, not, ◌&&◌, List, [], ◌∷◌, ◌++◌, eqb, length, get_or}
 use Rattle.std.proofs.Math.Option.{Option, none, some}
 use Rattle.base.specs.Byte.{left_brace}
-use Rattle.base.specs.If.{if◌then◌else◌, among}
+use Rattle.base.specs.If.{when◌then◌else◌, among}
 use Rattle.base.specs.Kind as kind
 use Rattle.base.specs.Number as number
 use Rattle.base.specs.State as state
@@ -78,7 +78,7 @@ exits kind e = e.exit && eqb e.kind kind
 -- where the first such event of a list stands, if it has one
 unfoldable pub first_at : (Event → Bool) → List Event → Option ℕ
 first_at test [] = none
-first_at test (e ∷ events) = if test e then some e.offset else first_at test events
+first_at test (e ∷ events) = when test e then some e.offset else first_at test events
 
 -- the event e opens an expression in a list, and these events are behind it
 pub record Opened (events : List Event) (e : Event) (behind : List Event) : Type 0 where

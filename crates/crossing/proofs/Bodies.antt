@@ -2,7 +2,7 @@
 use Prim.Native.Nat.{ℕ}
 use mathlib.Core.Path.{◌≡◌, refl}
 use mathlib.Core.List.{[]}
-use Rattle.base.specs.If.{if◌then◌else◌}
+use Rattle.base.specs.If.{when◌then◌else◌}
 use Rattle.base.specs.Table.{find}
 use Rattle.batch.specs.Record.{value_in}
 use Rattle.scan.specs.declared.Answer.{Answer}
@@ -29,7 +29,7 @@ use Rattle.crossing.specs.Workers.{lengths_said}
 use Rattle.crossing.specs.Inner.{bodiless_of, lengths_of}
 
 pub no_body : (a : Answer) (kind : ℕ) → bodiless_of (said_by a).number kind ≡ body_numbers (said_by a) kind
-unfolding body_numbers body_carried value_in find if◌then◌else◌
+unfolding body_numbers body_carried value_in find when◌then◌else◌
 no_body (Done end t) kind = refl
 no_body (Nok t) kind = refl
 no_body TooLong kind = refl
@@ -47,7 +47,7 @@ no_body (Paused p t) kind = refl
 no_body Kept kind = refl
 
 pub no_start : (a : Answer) → lengths_of [] ≡ lengths_of (lengths_said (said_by a))
-unfolding if◌then◌else◌
+unfolding when◌then◌else◌
 no_start (Done end t) = refl
 no_start (Nok t) = refl
 no_start TooLong = refl

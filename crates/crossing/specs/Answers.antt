@@ -3,7 +3,7 @@
 -- docs/SCOPE.md, 'From other languages': "An answer is its number and the values that docs/NUMBERS.md lists for it, each in a field of its own;
 -- what an answer does not carry is 0."
 use Rattle.std.specs.Prelude.{ℕ, List, [], ◌∷◌, eqb}
-use Rattle.base.specs.If.{if◌then◌else◌}
+use Rattle.base.specs.If.{when◌then◌else◌}
 use Rattle.base.specs.Table.{find}
 use Rattle.base.specs.State.{done, nok, not_ascii, eof, unexpected, verdict_error, verdict_eof, full, asking}
 use Rattle.base.specs.Number as number
@@ -102,7 +102,7 @@ body_numbers a kind =
       at = body_carried from a;
       length = body_carried size a;
       number = a.number;
-      kind = if eqb a.number number.bad_call then 0 else kind;
+      kind = when eqb a.number number.bad_call then 0 else kind;
     }
 
 -- ---- words that are enough

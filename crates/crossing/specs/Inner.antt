@@ -1,6 +1,6 @@
 -- What the parts of the crossing do. No promise to a user of the library cites these.
 use Rattle.std.specs.Prelude.{ℕ, List, eqb, length, get_or}
-use Rattle.base.specs.If.{if◌then◌else◌}
+use Rattle.base.specs.If.{when◌then◌else◌}
 use Rattle.base.specs.Number.{bad_call}
 use Rattle.page.specs.declared.line.Spot.{Spot}
 use Rattle.scan.specs.declared.Tally.{Tally}
@@ -63,4 +63,4 @@ lengths_of lengths = record { longest = get_or lengths 0 0; fits = length length
 
 -- an answer that says nothing of a body
 abbrev pub bodiless_of : ℕ → ℕ → BodyNumbers
-bodiless_of number kind = record { at = 0; length = 0; number = number; kind = if eqb number bad_call then 0 else kind }
+bodiless_of number kind = record { at = 0; length = 0; number = number; kind = when eqb number bad_call then 0 else kind }

@@ -3,7 +3,7 @@
 -- docs/SCOPE.md, 'From other languages': "A state is a struct of numbers, each as wide as what it stands for; a number that stands for no case of
 -- what it stands for is answered 12, and the state is handed back as it was."
 use Rattle.std.specs.Prelude.{ℕ, Bool, ◌&&◌, leb, eqb}
-use Rattle.base.specs.If.{if◌then◌else◌}
+use Rattle.base.specs.If.{when◌then◌else◌}
 use Rattle.base.specs.Tab.{columns_of}
 use Rattle.base.specs.declared.InTab.{InTab}
 use Rattle.base.specs.declared.Verdict.{Verdict}
@@ -34,7 +34,7 @@ verdict_listed v = leb v wrong
 
 -- the verdict of a case, with its number and its offset in the body
 abbrev pub verdict_in : ℕ → ℕ → ℕ → Verdict
-verdict_in v n offset = if eqb v fine then Fine else if eqb v unfinished then Unfinished n else Wrong n offset
+verdict_in v n offset = when eqb v fine then Fine else when eqb v unfinished then Unfinished n else Wrong n offset
 
 abbrev heard : ℕ → ℕ → ℕ → Heard
 heard v n offset = record { offset = offset; number = n; verdict = v }
@@ -48,7 +48,7 @@ verdict_out (Wrong n offset) = heard wrong n offset
 
 -- flags, as at the beginning of a scan: 1 for a verdict source, 2 for an interrupt, summed
 abbrev pub flags_out : Bool → Bool → ℕ
-flags_out asks interrupt = if asks then (if interrupt then 3 else 1) else if interrupt then 2 else 0
+flags_out asks interrupt = when asks then (when interrupt then 3 else 1) else when interrupt then 2 else 0
 
 -- the columns passed of a tab: 0 to 3
 abbrev pub most_columns : ℕ
@@ -60,8 +60,8 @@ tab_in columns = in_tab columns
 -- a verdict that is kept: what it does not have is 0
 abbrev pub heard_listed : ℕ → ℕ → ℕ → Bool
 heard_listed v n offset =
-    if eqb v fine then eqb n 0 && eqb offset 0
-    else if eqb v unfinished then eqb offset 0
+    when eqb v fine then eqb n 0 && eqb offset 0
+    else when eqb v unfinished then eqb offset 0
     else eqb v wrong
 
 -- the numbers that stand for a case of something stand for one

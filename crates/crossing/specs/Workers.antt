@@ -1,6 +1,6 @@
 -- Workers as numbers, and back: place by place.
 use Rattle.std.specs.Prelude.{ℕ, zero, suc, ◌+◌, Bool, true, ◌&&◌, List, [], ◌∷◌, leb, eqb, length, get_or}
-use Rattle.base.specs.If.{if◌then◌else◌}
+use Rattle.base.specs.If.{when◌then◌else◌}
 use Rattle.base.specs.Number as number
 use Rattle.scan.specs.Answer.{Said, refused}
 use Rattle.worker.specs.declared.Place.{Place}
@@ -25,7 +25,7 @@ unfoldable pub place_in : PlaceNumbers → Place
 place_in c = record { taken = eqb c.taken 1; at = c.at; scan = scan_in c.scan }
 
 unfoldable pub place_out : Place → PlaceNumbers
-place_out p = record { scan = scan_out p.scan; at = p.at; taken = if p.taken then 1 else 0 }
+place_out p = record { scan = scan_out p.scan; at = p.at; taken = when p.taken then 1 else 0 }
 
 -- ---- all places, one by one
 
@@ -104,7 +104,7 @@ called_refused c = record { worker = c; answer = answer_numbers refused }
 
 -- a start says the length of the longest page that cannot run full, or nothing where there is none; no other answer says a length
 abbrev pub lengths_said : Said → List ℕ
-lengths_said a = if eqb a.number number.started then a.values else []
+lengths_said a = when eqb a.number number.started then a.values else []
 
 abbrev pub started_out : Worker → Said → StartedNumbers
 started_out w a = record { worker = worker_out w; longest = get_or (lengths_said a) 0 0; number = a.number; fits = length (lengths_said a) }

@@ -1,6 +1,6 @@
 // Workers as numbers, and back.
 ghost use Rattle.std.specs.Prelude.{◌≡◌, []};
-ghost use Rattle.base.specs.If.{if◌then◌else◌};
+ghost use Rattle.base.specs.If.{when◌then◌else◌};
 ghost use Rattle.room.specs.Room.{longest_by};
 ghost use Rattle.worker.specs.Reply.{said_by};
 ghost use Rattle.crossing.specs.Workers.{place_listed, place_in, place_out, worker_listed, worker_in, worker_out, called_out, called_refused, lengths_said, started_out};
@@ -40,7 +40,7 @@ fn place_in(numbers: PlaceNumbers) -> Place
 }
 
 fn taken_out(taken: bool) -> usize
-    ensures { result ≡ (if taken then 1 else 0) }
+    ensures { result ≡ (when taken then 1 else 0) }
 {
     if taken {
         return 1;

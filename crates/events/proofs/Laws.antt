@@ -8,7 +8,7 @@ use mathlib.Core.List.{List, [], ◌∷◌, ◌++◌, append_assoc}
 use lib.Dec.{eqb}
 use lib.ListN.{length, get_or, set, take, drop, length-append}
 use lib.Seq.{sets, sets-eq, length-sets, get_or-append-add}
-use Rattle.base.specs.If.{if◌then◌else◌}
+use Rattle.base.specs.If.{when◌then◌else◌}
 use Rattle.base.specs.declared.InTab.{InTab}
 use Rattle.base.specs.declared.InTab.TheVariants.{Outside, Past1, Past2, Past3}
 use Rattle.base.specs.Tab.{columns_of}
@@ -176,7 +176,7 @@ module _ (kind v x : ℕ) (h : v < 4) (g : x < 2) where
   exit_part = omega arith
 
 tab_again : (tab : InTab) → in_tab (columns_of tab) ≡ tab
-unfolding if◌then◌else◌
+unfolding when◌then◌else◌
 tab_again Outside = refl
 tab_again Past1 = refl
 tab_again Past2 = refl

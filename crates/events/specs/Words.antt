@@ -8,7 +8,7 @@ use Rattle.base.specs.declared.InTab.TheVariants.{Outside, Past1, Past2, Past3}
 use Rattle.base.specs.Tab.{columns_of}
 use Rattle.base.specs.declared.Mark.{Mark}
 use Rattle.base.specs.declared.Mark.TheVariants.{Enter, Exit, Leave}
-use Rattle.base.specs.If.{if◌then◌else◌}
+use Rattle.base.specs.If.{when◌then◌else◌}
 use Rattle.events.specs.declared.Event.{Event}
 use Rattle.events.specs.Event.{point, event}
 
@@ -44,7 +44,7 @@ mark_word (Leave kind) tab = kind_word kind tab true
 
 -- so many columns of a tab
 abbrev pub in_tab : ℕ → InTab
-in_tab columns = if eqb columns 0 then Outside else if eqb columns 1 then Past1 else if eqb columns 2 then Past2 else Past3
+in_tab columns = when eqb columns 0 then Outside else when eqb columns 1 then Past1 else when eqb columns 2 then Past2 else Past3
 
 -- event k of a buffer
 abbrev pub event_in : List ℕ → ℕ → Event

@@ -1,12 +1,12 @@
 -- Calls by numbers are the library's own calls.
-use Rattle.base.specs.If.{if◌then◌else◌}
+use Rattle.base.specs.If.{when◌then◌else◌}
 use Rattle.tarredlath.specs.Face.{run_face, give_face, answer_face, body_face, admit_face, turn_face, verdict_face, collect_face, place_body_face, view_face}
 use Rattle.face_theorems.specs.Statement.{ScansAreTheLibrarys, WorkersAreTheLibrarys}
 use Rattle.face_theorems.proofs.Scans.{verdict_back, verdict_listed_lem, a_scan_comes_back}
 use Rattle.face_theorems.proofs.Workers.{a_worker_comes_back}
 
 pub the_face_adds_nothing_to_scans : ScansAreTheLibrarys
-unfolding run_face give_face answer_face body_face if◌then◌else◌
+unfolding run_face give_face answer_face body_face when◌then◌else◌
 the_face_adds_nothing_to_scans s =
     let b = a_scan_comes_back s in
     record {
@@ -17,7 +17,7 @@ the_face_adds_nothing_to_scans s =
     }
 
 pub the_face_adds_nothing_to_workers : WorkersAreTheLibrarys
-unfolding admit_face turn_face verdict_face collect_face place_body_face view_face if◌then◌else◌
+unfolding admit_face turn_face verdict_face collect_face place_body_face view_face when◌then◌else◌
 the_face_adds_nothing_to_workers w size =
     let b = a_worker_comes_back w size in
     record {

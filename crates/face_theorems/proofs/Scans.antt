@@ -7,7 +7,7 @@ use mathlib.Core.Logic.{by_cases}
 use mathlib.Core.Bool.{Bool, true, false}
 use lib.Dec.{leb, eqb}
 use borrow.Author.Tests.{eqb-true, leb-true}
-use Rattle.base.specs.If.{if◌then◌else◌}
+use Rattle.base.specs.If.{when◌then◌else◌}
 use Rattle.base.proofs.Choice.{case, both, and_yes}
 use Rattle.base.specs.Tab.{columns_of}
 use Rattle.base.specs.declared.InTab.{InTab}
@@ -22,28 +22,28 @@ use Rattle.face_theorems.specs.Statement.{ScanComesBack, NumbersComeBack}
 -- ---- there and back
 
 asks_back : (a i : Bool) → eqb (flags_out a i % 2) 1 ≡ a
-unfolding if◌then◌else◌
+unfolding when◌then◌else◌
 asks_back true true = refl
 asks_back true false = refl
 asks_back false true = refl
 asks_back false false = refl
 
 interrupt_back : (a i : Bool) → leb 2 (flags_out a i) ≡ i
-unfolding if◌then◌else◌
+unfolding when◌then◌else◌
 interrupt_back true true = refl
 interrupt_back true false = refl
 interrupt_back false true = refl
 interrupt_back false false = refl
 
 flags_listed : (a i : Bool) → leb (flags_out a i) 3 ≡ true
-unfolding if◌then◌else◌
+unfolding when◌then◌else◌
 flags_listed true true = refl
 flags_listed true false = refl
 flags_listed false true = refl
 flags_listed false false = refl
 
 tab_back : (t : InTab) → in_tab (columns_of t) ≡ t
-unfolding if◌then◌else◌
+unfolding when◌then◌else◌
 tab_back Outside = refl
 tab_back Past1 = refl
 tab_back Past2 = refl
@@ -56,7 +56,7 @@ tab_listed Past2 = refl
 tab_listed Past3 = refl
 
 pub verdict_back : (v : Verdict) → verdict_in (verdict_out v).verdict (verdict_out v).number (verdict_out v).offset ≡ v
-unfolding if◌then◌else◌
+unfolding when◌then◌else◌
 verdict_back Fine = refl
 verdict_back (Unfinished n) = refl
 verdict_back (Wrong n offset) = refl
@@ -67,7 +67,7 @@ verdict_listed_lem (Unfinished n) = refl
 verdict_listed_lem (Wrong n offset) = refl
 
 heard_listed_lem : (v : Verdict) → heard_listed (verdict_out v).verdict (verdict_out v).number (verdict_out v).offset ≡ true
-unfolding if◌then◌else◌
+unfolding when◌then◌else◌
 heard_listed_lem Fine = refl
 heard_listed_lem (Unfinished n) = refl
 heard_listed_lem (Wrong n offset) = refl
@@ -84,7 +84,7 @@ a_scan_comes_back s =
 -- ---- back and there
 
 flags_out_lem : (f : ℕ) → f ≤ 3 → flags_out (eqb (f % 2) 1) (leb 2 f) ≡ f
-unfolding if◌then◌else◌
+unfolding when◌then◌else◌
 flags_out_lem f h =
     by_cases (ℕ_discrete f 0) (λ (e : f ≡ 0). rw e)
     (λ n0. by_cases (ℕ_discrete f 1) (λ (e : f ≡ 1). rw e)
@@ -92,7 +92,7 @@ flags_out_lem f h =
     (λ n2. let e : f ≡ 3 = omega (arith, n0, n1, n2) in rw e)))
 
 tab_out : (n : ℕ) → n ≤ 3 → columns_of (in_tab n) ≡ n
-unfolding if◌then◌else◌
+unfolding when◌then◌else◌
 tab_out f h =
     by_cases (ℕ_discrete f 0) (λ (e : f ≡ 0). rw e)
     (λ n0. by_cases (ℕ_discrete f 1) (λ (e : f ≡ 1). rw e)
@@ -103,7 +103,7 @@ abbrev heard : ℕ → ℕ → ℕ → Heard
 heard v n offset = record { offset = offset; number = n; verdict = v }
 
 verdict_out_lem : (v n offset : ℕ) → heard_listed v n offset ≡ true → verdict_out (verdict_in v n offset) ≡ heard v n offset
-unfolding if◌then◌else◌
+unfolding when◌then◌else◌
 verdict_out_lem v n offset h =
     case _ (eqb v 0)
     (λ e.

@@ -11,7 +11,7 @@ use lib.Dec.{leb, eqb}
 use lib.ListN.{length, get_or}
 use lib.Seq.{ext_get_or}
 use borrow.Author.Tests.{leb-true}
-use Rattle.base.specs.If.{if◌then◌else◌}
+use Rattle.base.specs.If.{when◌then◌else◌}
 use Rattle.base.proofs.Choice.{both, and_yes}
 use Rattle.worker.specs.declared.Place.{Place}
 use Rattle.worker.specs.Ring.{places}
@@ -24,13 +24,13 @@ use Rattle.face_theorems.proofs.Scans.{a_scan_comes_back, numbers_come_back}
 
 -- ---- a place
 
-taken_back : (t : Bool) → eqb (if t then 1 else 0) 1 ≡ t
-unfolding if◌then◌else◌
+taken_back : (t : Bool) → eqb (when t then 1 else 0) 1 ≡ t
+unfolding when◌then◌else◌
 taken_back true = refl
 taken_back false = refl
 
-taken_listed : (t : Bool) → leb (if t then 1 else 0) 1 ≡ true
-unfolding if◌then◌else◌
+taken_listed : (t : Bool) → leb (when t then 1 else 0) 1 ≡ true
+unfolding when◌then◌else◌
 taken_listed true = refl
 taken_listed false = refl
 
@@ -42,8 +42,8 @@ place_listed_lem : (p : Place) → place_listed (place_out p) ≡ true
 unfolding place_listed place_out
 place_listed_lem p = and_yes _ _ (taken_listed p.taken) (a_scan_comes_back p.scan).listed
 
-taken_out : (t : ℕ) → t ≤ 1 → (if eqb t 1 then 1 else 0) ≡ t
-unfolding if◌then◌else◌
+taken_out : (t : ℕ) → t ≤ 1 → (when eqb t 1 then 1 else 0) ≡ t
+unfolding when◌then◌else◌
 taken_out t h = by_cases (ℕ_discrete t 0) (λ (e : t ≡ 0). rw e) (λ n. let e : t ≡ 1 = omega (arith, n) in rw e)
 
 numbers_back : (c : PlaceNumbers) → place_listed c ≡ true → place_out (place_in c) ≡ c

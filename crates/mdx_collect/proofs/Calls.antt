@@ -7,7 +7,7 @@ use mathlib.Core.List.{List}
 use lib.Dec.{eqb}
 use lib.ListN.{length}
 use borrow.Author.Tests.{eqb-true}
-use Rattle.base.specs.If.{if◌then◌else◌}
+use Rattle.base.specs.If.{when◌then◌else◌}
 use Rattle.base.proofs.Choice.{both}
 use Rattle.base.specs.Page.{page_limit}
 use Rattle.body_places.specs.Body.{expression_cells}
@@ -37,14 +37,14 @@ asks s n e =
 
 module _ (page : List ℕ) (s : Scan) (scratch : List ℕ) where
   pub not_asked : asked s (length page) ≡ false → collected_by BadCall scratch ≡ collect_of page s scratch
-  unfolding collect_of if◌then◌else◌
+  unfolding collect_of when◌then◌else◌
   not_asked e = rw e
 
   module _ (from end : ℕ) (a : asked s (length page) ≡ true) (f : from ≡ first s) (g : end ≡ seam s) where
     pub in_page : (n : ℕ) → n ≡ end - from → only_prefix page end s.tokenizer.at ≡ true → collected_by (InPage from n) scratch ≡ collect_of page s scratch
-    unfolding collect_of if◌then◌else◌
+    unfolding collect_of when◌then◌else◌
     in_page n h o = rw (h, f, g) (rw (a, rw g at o))
 
     pub in_scratch : (r : Body) (out : List ℕ) → only_prefix page end s.tokenizer.at ≡ false → collected_by r out ≡ copied_of (expression_cells page from s.tokenizer.at) scratch → collected_by r out ≡ collect_of page s scratch
-    unfolding collect_of if◌then◌else◌
+    unfolding collect_of when◌then◌else◌
     in_scratch r out o e = rw (a, rw g at o) (rw f at e)

@@ -9,7 +9,7 @@ use lib.Dec.{ltb, eqb}
 use lib.ListN.{length, set, length-append, length-map}
 use lib.Seq.{sets}
 use borrow.Author.Tests.{eq-eqb, ne_eqb, ltb-true}
-use Rattle.base.specs.If.{if◌then◌else◌}
+use Rattle.base.specs.If.{when◌then◌else◌}
 use Rattle.base.proofs.Choice.{case, both, and_no', and_yes}
 use Rattle.base.specs.Byte.{space}
 use Rattle.base.specs.Page.{byte_at}
@@ -35,7 +35,7 @@ spaces_long (suc n) = ap suc (spaces_long n)
 -- bytes do not depend on how far places drift
 module _ (page : List ℕ) where
   pub no_drift : (n left drift at : ℕ) → bytes_of (cells_from page left drift at n) ≡ bytes_of (cells_from page left 0 at n)
-  unfolding cells_from if◌then◌else◌
+  unfolding cells_from when◌then◌else◌
   no_drift zero left drift at = refl
   no_drift (suc n) left drift at =
       let b = byte_at page at in

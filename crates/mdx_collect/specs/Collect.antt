@@ -9,7 +9,7 @@
 -- `the_body_is_what_the_events_say` of crate `body_theorems`.
 use Rattle.std.specs.Prelude.{ℕ, ◌+◌, ◌-◌, ◌/◌, ◌≤◌, ◌≡◌, Bool, true, false, ◌&&◌, ◌||◌, List, [], ◌∷◌, leb, eqb, length}
 use Rattle.std.proofs.lemmas.List.Edits.{sets}
-use Rattle.base.specs.If.{if◌then◌else◌}
+use Rattle.base.specs.If.{when◌then◌else◌}
 use Rattle.base.specs.Number as number
 use Rattle.base.specs.State.{asking}
 use Rattle.body_places.specs.Body.{Cell, bytes_of, cells_from, expression_cells, part_cells}
@@ -38,14 +38,14 @@ handed_over BadCall = false
 
 -- where it begins: an ESM block at its word, an expression after its `{`
 abbrev pub first : Scan → ℕ
-first s = if eqb s.tokenizer.job.construct esm then s.tokenizer.job.start else s.tokenizer.regs.body
+first s = when eqb s.tokenizer.job.construct esm then s.tokenizer.job.start else s.tokenizer.regs.body
 
 -- no line prefix stands before this place: the place of the first one (a register of the scan), or the place that asks. Of an ESM block
 -- nothing is left out
 abbrev pub seam : Scan → ℕ
 seam s =
-    if eqb s.tokenizer.job.construct esm then s.tokenizer.at
-    else if eqb s.tokenizer.regs.joint 0 then s.tokenizer.at
+    when eqb s.tokenizer.job.construct esm then s.tokenizer.at
+    else when eqb s.tokenizer.regs.joint 0 then s.tokenizer.at
     else s.tokenizer.regs.joint
 
 -- no byte of the body stands from a line prefix at `from` on: there are at most two spaces. (Of a tab some columns are always left.)
@@ -59,7 +59,7 @@ unbroken page s = only_prefix page (seam s) s.tokenizer.at
 -- the body's bytes, with the place of each
 unfoldable pub body_cells : List ℕ → Scan → List Cell
 body_cells page s =
-    if unbroken page s then part_cells page (first s) (seam s - first s)
+    when unbroken page s then part_cells page (first s) (seam s - first s)
     else expression_cells page (first s) s.tokenizer.at
 
 unfoldable pub body_of : List ℕ → Scan → List ℕ
@@ -93,13 +93,13 @@ collected_by b scratch = collected (said_by b) scratch
 -- the body copied to the front of the scratch
 abbrev pub copied_of : List Cell → List ℕ → Collected
 copied_of cells scratch =
-    if leb (length cells) (length scratch) then collected (said number.in_scratch (length cells ∷ [])) (sets scratch 0 (bytes_of cells))
+    when leb (length cells) (length scratch) then collected (said number.in_scratch (length cells ∷ [])) (sets scratch 0 (bytes_of cells))
     else collected refused scratch
 
 unfoldable pub collect_of : List ℕ → Scan → List ℕ → Collected
 collect_of page s scratch =
-    if asked s (length page) then
-    (if unbroken page s then collected (said number.in_page (first s ∷ (seam s - first s) ∷ [])) scratch
+    when asked s (length page) then
+    (when unbroken page s then collected (said number.in_page (first s ∷ (seam s - first s) ∷ [])) scratch
     else copied_of (expression_cells page (first s) s.tokenizer.at) scratch)
     else collected refused scratch
 
@@ -107,7 +107,7 @@ collect_of page s scratch =
 
 -- n bytes from a place on; nothing, where they are not there
 abbrev pub piece_of : List ℕ → ℕ → ℕ → List ℕ
-piece_of bytes at n = if lies_inside (length bytes) at n then page_of bytes at n else []
+piece_of bytes at n = when lies_inside (length bytes) at n then page_of bytes at n else []
 
 abbrev pub part_of : List ℕ → List ℕ → Body → List ℕ
 part_of page scratch (InPage at n) = piece_of page at n

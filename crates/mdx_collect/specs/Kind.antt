@@ -4,7 +4,7 @@
 -- alone, an attribute that is an expression, or an attribute's value, by the name of the expression's own event (`token_1`), and ESM has a
 -- callback of its own; so there are four kinds."
 use Rattle.std.specs.Prelude.{ℕ, eqb}
-use Rattle.base.specs.If.{if◌then◌else◌}
+use Rattle.base.specs.If.{when◌then◌else◌}
 use Rattle.base.specs.Kind.{jsx_tag_attribute_expression, jsx_tag_attribute_value_expression}
 use Rattle.tokenizer.specs.Decision.{expression_token}
 use Rattle.tokenizer.specs.Ranges.{esm}
@@ -33,14 +33,14 @@ esm_body = 4
 -- by the kind of the expression's own events
 abbrev pub kind_of_token : ℕ → ℕ
 kind_of_token token =
-    if eqb token jsx_tag_attribute_expression then attribute_expression_body
-    else if eqb token jsx_tag_attribute_value_expression then attribute_value_body
+    when eqb token jsx_tag_attribute_expression then attribute_expression_body
+    else when eqb token jsx_tag_attribute_value_expression then attribute_value_body
     else expression_body
 
 -- a scan over a page of its own length asks, or has a verdict kept that is not applied, as where a body can be read
 unfoldable pub body_kind : Scan → ℕ
 body_kind s =
     let job = s.tokenizer.job in
-    if asked s job.length then
-    (if eqb job.construct esm then esm_body else kind_of_token (expression_token job.kind s.tokenizer.regs.back))
+    when asked s job.length then
+    (when eqb job.construct esm then esm_body else kind_of_token (expression_token job.kind s.tokenizer.regs.back))
     else no_body

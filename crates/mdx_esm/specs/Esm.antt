@@ -6,7 +6,7 @@
 -- docs/SCOPE.md, 'ESM': it needs column 1, a clear interrupt flag, a verdict source, the word, then a space. At the page end, or a
 -- line ending followed by a blank line, it asks.
 use Rattle.std.specs.Prelude.{ℕ, Bool, ◌&&◌, [], ◌∷◌, eqb}
-use Rattle.base.specs.If.{if◌then◌else◌, among}
+use Rattle.base.specs.If.{when◌then◌else◌, among}
 use Rattle.base.specs.Range.{within}
 use Rattle.base.specs.Byte.{line_feed, space, small_a, small_e, small_i, small_z, end_of_page}
 use Rattle.base.specs.Kind.{line_ending, esm, esm_data}
@@ -40,7 +40,7 @@ begins b allowed = allowed && among (small_e ∷ small_i ∷ []) b
 -- the start; `allowed` says that there is a verdict source, no interrupt, and column 1
 abbrev pub start : ℕ → Bool → Move
 start b allowed =
-    if begins b allowed then eat mdx_esm_word (Two (Enter esm) (Enter esm_data))
+    when begins b allowed then eat mdx_esm_word (Two (Enter esm) (Enter esm_data))
     else retry nok Nothing
 
 -- a lower-case letter, and the space after the word
@@ -53,8 +53,8 @@ word_ends b is_word = is_word && eqb b space
 -- in the word; `is_word` says that the bytes from the start up to this place are `export` or `import`
 abbrev pub word : ℕ → Bool → Move
 word b is_word =
-    if in_word b then eat mdx_esm_word Nothing
-    else if word_ends b is_word then eat mdx_esm_inside Nothing
+    when in_word b then eat mdx_esm_word Nothing
+    else when word_ends b is_word then eat mdx_esm_inside Nothing
     else retry nok Nothing
 
 -- a line is over: its line ending, or the page's end
@@ -64,14 +64,14 @@ line_ends b = among (line_feed ∷ end_of_page ∷ []) b
 -- *line: in a line
 abbrev pub inside : ℕ → Move
 inside b =
-    if line_ends b then retry mdx_esm_line_start (One (Exit esm_data))
+    when line_ends b then retry mdx_esm_line_start (One (Exit esm_data))
     else eat mdx_esm_inside Nothing
 
 -- at the start of a line, or at a line ending, where the place is saved and the next line looked at
 abbrev pub line_start : ℕ → Move
 line_start b =
-    if eqb b end_of_page then retry mdx_esm_at_end Nothing
-    else if eqb b line_feed then retry_with mdx_esm_blank_line_before Nothing Save
+    when eqb b end_of_page then retry mdx_esm_at_end Nothing
+    else when eqb b line_feed then retry_with mdx_esm_blank_line_before Nothing Save
     else eat mdx_esm_inside (One (Enter esm_data))
 
 -- eol: the block goes on in the next line
@@ -85,8 +85,8 @@ blank_line_before = eat mdx_esm_blank_line Nothing
 -- the look-ahead: a line of spaces and tabs only is blank, and so is the page end. Either way the saved place is taken up
 abbrev pub blank_line : ℕ → Move
 blank_line b =
-    if is_space_or_tab b then eat mdx_esm_blank_line Nothing
-    else if line_ends b then retry_with mdx_esm_at_end Nothing Restore
+    when is_space_or_tab b then eat mdx_esm_blank_line Nothing
+    else when line_ends b then retry_with mdx_esm_at_end Nothing Restore
     else retry_with mdx_esm_continuation_start Nothing Restore
 
 -- at the end of the block, if the verdict says so
@@ -100,13 +100,13 @@ exits_behind b after_line_feed = after_line_feed && eqb b line_feed
 
 abbrev pub exits : ℕ → Bool → Move
 exits b after_line_feed =
-    if exits_behind b after_line_feed then retry done (One (Leave esm))
+    when exits_behind b after_line_feed then retry done (One (Leave esm))
     else retry done (One (Exit esm))
 
 -- unfinished goes on in the next line, or at the page end answers 9
 abbrev pub unfinished : ℕ → ℕ → Move
 unfinished b n =
-    if eqb b end_of_page then retry_with verdict_eof Nothing (Last n)
+    when eqb b end_of_page then retry_with verdict_eof Nothing (Last n)
     else retry_with mdx_esm_continuation_start Nothing (Last n)
 
 -- the verdict on the block before this line ending, or before the page's end

@@ -5,7 +5,7 @@
 --
 -- docs/SCOPE.md, 'Expression, counting' and 'Expression, with verdicts'. Counting is the Rust with no `mdx_expression_parse`.
 use Rattle.std.specs.Prelude.{ℕ, Bool, ◌||◌, ◌&&◌, ltb, eqb}
-use Rattle.base.specs.If.{if◌then◌else◌}
+use Rattle.base.specs.If.{when◌then◌else◌}
 use Rattle.base.specs.Byte.{tab, line_feed, space, left_brace, right_brace, end_of_page}
 use Rattle.base.specs.Kind.{expression_marker, line_ending, expression_data, line_prefix}
 use Rattle.base.specs.State.{nok, eof, verdict_error, verdict_eof, asking, mdx_expression_before, mdx_expression_inside, mdx_expression_eol_after, mdx_expression_prefix}
@@ -43,29 +43,29 @@ close token back = eat back (Three (Enter expression_marker) (Leave expression_m
 -- `{`
 abbrev pub start : ℕ → ℕ → Move
 start b token =
-    if eqb b left_brace then eat_with mdx_expression_before (Three (Enter token) (Enter expression_marker) (Leave expression_marker)) Open
+    when eqb b left_brace then eat_with mdx_expression_before (Three (Enter token) (Enter expression_marker) (Leave expression_marker)) Open
     else retry nok Nothing
 
 -- *(expression_text | expression), and the `}` that closes. `last` is the number of the last unfinished verdict, 0 if none stands
 abbrev pub before : ℕ → ℕ → Bool → ℕ → ℕ → ℕ → Move
 before b depth asks last token back =
-    if eqb b end_of_page then (if eqb last 0 then refuse eof in_expression 0 else retry verdict_eof Nothing)
-    else if eqb b line_feed then eat mdx_expression_eol_after (Two (Enter line_ending) (Leave line_ending))
-    else if closes b depth then (if asks then retry asking Nothing else close token back)
+    when eqb b end_of_page then (when eqb last 0 then refuse eof in_expression 0 else retry verdict_eof Nothing)
+    else when eqb b line_feed then eat mdx_expression_eol_after (Two (Enter line_ending) (Leave line_ending))
+    else when closes b depth then (when asks then retry asking Nothing else close token back)
     else retry mdx_expression_inside (One (Enter expression_data))
 
 -- in data. With verdicts, `{` is not counted
 abbrev pub inside : ℕ → ℕ → Bool → Move
 inside b depth asks =
-    if stops b depth then retry mdx_expression_before (One (Exit expression_data))
-    else if eqb b left_brace then (if asks then eat mdx_expression_inside Nothing else eat_with mdx_expression_inside Nothing Deeper)
-    else if eqb b right_brace then eat_with mdx_expression_inside Nothing Shallower
+    when stops b depth then retry mdx_expression_before (One (Exit expression_data))
+    else when eqb b left_brace then (when asks then eat mdx_expression_inside Nothing else eat_with mdx_expression_inside Nothing Deeper)
+    else when eqb b right_brace then eat_with mdx_expression_inside Nothing Shallower
     else eat mdx_expression_inside Nothing
 
 -- after a line ending; no line is lazy
 abbrev pub eol_after : ℕ → Move
 eol_after b =
-    if is_space_or_tab b then retry_with mdx_expression_prefix (One (Enter line_prefix)) PrefixBegins
+    when is_space_or_tab b then retry_with mdx_expression_prefix (One (Enter line_prefix)) PrefixBegins
     else retry mdx_expression_before Nothing
 
 -- a space is one column of a line prefix, `size` of whose columns are passed
@@ -78,13 +78,13 @@ prefix_in_tab b size = ltb size prefix_size && eqb b tab
 
 -- of such a tab the prefix takes the columns that it has left
 abbrev pub taken : ℕ → InTab
-taken size = if eqb size 0 then Past2 else Past1
+taken size = when eqb size 0 then Past2 else Past1
 
 -- the Rust runs `prefix` for each column; here a tab is one step in each state that it is met in
 abbrev pub prefix : ℕ → ℕ → Move
 prefix b size =
-    if prefix_goes_on b size then eat_with mdx_expression_prefix Nothing PrefixGoesOn
-    else if prefix_in_tab b size then retry_with mdx_expression_prefix Nothing (PrefixInTab (taken size))
+    when prefix_goes_on b size then eat_with mdx_expression_prefix Nothing PrefixGoesOn
+    else when prefix_in_tab b size then retry_with mdx_expression_prefix Nothing (PrefixInTab (taken size))
     else retry_with mdx_expression_before (One (Exit line_prefix)) PrefixEnds
 
 -- the verdict on the body before this `}`: Ok closes; unfinished takes the `}` as data; error answers at `place`

@@ -1,6 +1,6 @@
 -- What the states of `partial_mdx_jsx.rs` share. docs/SCOPE.md, 'Classes' and 'The answer table': where-numbers and notes.
 use Rattle.std.specs.Prelude.{ℕ, Bool, ◌||◌, [], ◌∷◌, eqb}
-use Rattle.base.specs.If.{if◌then◌else◌, among}
+use Rattle.base.specs.If.{when◌then◌else◌, among}
 use Rattle.base.specs.Byte.{line_feed, slash, less_than, greater_than, left_brace, end_of_page}
 use Rattle.base.specs.Kind.{jsx_tag_marker, jsx_es_whitespace, line_ending}
 use Rattle.base.specs.State.{
@@ -125,50 +125,50 @@ whitespace_after marks back = eat_with mdx_jsx_es_whitespace_start marks (Return
 --     identifier ::= identifier_start *identifier_part
 abbrev pub in_a_name : ℕ → Bool → ℕ → Marks → ℕ → ℕ → ℕ → Move
 in_a_name b ends same marks after site note =
-    if ends then whitespace_here marks after
-    else if is_id_cont b then eat same Nothing
+    when ends then whitespace_here marks after
+    else when is_id_cont b then eat same Nothing
     else crash site note
 
 -- '<'; `token` is the kind of the tag
 abbrev pub start : ℕ → ℕ → Move
 start b token =
-    if eqb b less_than then eat mdx_jsx_start_after (Three (Enter token) (Enter jsx_tag_marker) (Leave jsx_tag_marker))
+    when eqb b less_than then eat mdx_jsx_start_after (Three (Enter token) (Enter jsx_tag_marker) (Leave jsx_tag_marker))
     else retry nok Nothing
 
 -- after '<'; constraint: markdown whitespace (`space_or_tab | eol`) is not allowed here, so that `1 < 3` is no tag
 abbrev pub start_after : ℕ → Move
 start_after b =
-    if is_space_or_tab b then retry nok Nothing
-    else if eqb b line_feed then retry nok Nothing
+    when is_space_or_tab b then retry nok Nothing
+    else when eqb b line_feed then retry nok Nothing
     else whitespace_here Nothing mdx_jsx_name_before
 
 -- after the '/' of [closing]: *whitespace '>'
 abbrev pub self_closing : ℕ → Move
 self_closing b =
-    if eqb b greater_than then retry mdx_jsx_tag_end Nothing
-    else if eqb b slash then crash after_self_closing_slash comment_in_tag
+    when eqb b greater_than then retry mdx_jsx_tag_end Nothing
+    else when eqb b slash then crash after_self_closing_slash comment_in_tag
     else crash after_self_closing_slash no_note
 
 -- the '>' of a tag of the kind `token`. The state before has seen it: the Rust says `unreachable!` of any other byte
 abbrev pub tag_end : ℕ → ℕ → Move
 tag_end b token =
-    if eqb b greater_than then eat done (Three (Enter jsx_tag_marker) (Leave jsx_tag_marker) (Leave token))
+    when eqb b greater_than then eat done (Three (Enter jsx_tag_marker) (Leave jsx_tag_marker) (Leave token))
     else crash nowhere no_note
 
 -- *whitespace, which ends in `back`
 --     whitespace ::= es_whitespace
 abbrev pub es_whitespace_start : ℕ → ℕ → Move
 es_whitespace_start b back =
-    if eqb b line_feed then eat mdx_jsx_es_whitespace_eol_after (Two (Enter line_ending) (Leave line_ending))
-    else if whitespace_or_end b then retry mdx_jsx_es_whitespace_inside (One (Enter jsx_es_whitespace))
+    when eqb b line_feed then eat mdx_jsx_es_whitespace_eol_after (Two (Enter line_ending) (Leave line_ending))
+    else when whitespace_or_end b then retry mdx_jsx_es_whitespace_inside (One (Enter jsx_es_whitespace))
     else retry back Nothing
 
 -- in white space; the page's end here is Nok
 abbrev pub es_whitespace_inside : ℕ → ℕ → Move
 es_whitespace_inside b back =
-    if eqb b line_feed then retry mdx_jsx_es_whitespace_start (One (Exit jsx_es_whitespace))
-    else if eqb b end_of_page then retry nok Nothing
-    else if is_whitespace b then eat mdx_jsx_es_whitespace_inside Nothing
+    when eqb b line_feed then retry mdx_jsx_es_whitespace_start (One (Exit jsx_es_whitespace))
+    else when eqb b end_of_page then retry nok Nothing
+    else when is_whitespace b then eat mdx_jsx_es_whitespace_inside Nothing
     else retry back (One (Exit jsx_es_whitespace))
 
 -- after a line ending in white space; no line is lazy
@@ -179,7 +179,7 @@ es_whitespace_eol_after = retry mdx_jsx_es_whitespace_start Nothing
 -- ending here, and `kind_after_index` still looks at the byte after the `=`
 abbrev pub es_whitespace_start_retried : ℕ → ℕ → Move
 es_whitespace_start_retried b back =
-    if whitespace_or_end b then retry mdx_jsx_es_whitespace_inside_retried (One (Enter jsx_es_whitespace))
+    when whitespace_or_end b then retry mdx_jsx_es_whitespace_inside_retried (One (Enter jsx_es_whitespace))
     else retry back Nothing
 
 -- `es_whitespace_inside` with `current` still `None`

@@ -10,7 +10,7 @@
 -- docs/SCOPE.md, 'Tag': a quoted value ends at the same quote only, spans lines, and drops white space at each later line's head
 -- from its value events; after `=` the plain attribute state returns Retry where the local one returns Next.
 use Rattle.std.specs.Prelude.{ℕ, Bool, ◌||◌, [], ◌∷◌, eqb}
-use Rattle.base.specs.If.{if◌then◌else◌, among}
+use Rattle.base.specs.If.{when◌then◌else◌, among}
 use Rattle.base.specs.Byte.{line_feed, quotation_mark, apostrophe, slash, colon, less_than, equals_sign, greater_than, left_brace, end_of_page}
 use Rattle.base.specs.Kind.{
   jsx_tag_self_closing_marker,
@@ -71,10 +71,10 @@ use Rattle.mdx_jsx.specs.Jsx.{
 -- before an attribute, the slash that ends the tag, or its end
 abbrev pub attribute_before : ℕ → Move
 attribute_before b =
-    if eqb b slash then whitespace_after (Two (Enter jsx_tag_self_closing_marker) (Leave jsx_tag_self_closing_marker)) mdx_jsx_self_closing
-    else if eqb b greater_than then retry mdx_jsx_tag_end Nothing
-    else if eqb b left_brace then retry_with mdx_expression_start Nothing (Return mdx_jsx_attribute_expression_after)
-    else if is_id_start b then eat mdx_jsx_attribute_primary_name (Three (Enter jsx_tag_attribute) (Enter jsx_tag_attribute_name) (Enter jsx_tag_attribute_primary_name))
+    when eqb b slash then whitespace_after (Two (Enter jsx_tag_self_closing_marker) (Leave jsx_tag_self_closing_marker)) mdx_jsx_self_closing
+    else when eqb b greater_than then retry mdx_jsx_tag_end Nothing
+    else when eqb b left_brace then retry_with mdx_expression_start Nothing (Return mdx_jsx_attribute_expression_after)
+    else when is_id_start b then eat mdx_jsx_attribute_primary_name (Three (Enter jsx_tag_attribute) (Enter jsx_tag_attribute_name) (Enter jsx_tag_attribute_primary_name))
     else crash before_attribute_name no_note
 
 -- after an attribute that is an expression
@@ -97,18 +97,18 @@ attribute_followed b = whitespace_or_end b || name_followed b
 -- after the first identifier of a key: [local], or '=', after which the white space state is retried with the byte eaten
 abbrev pub attribute_primary_name_after : ℕ → Move
 attribute_primary_name_after b =
-    if eqb b colon then whitespace_after (Two (Enter jsx_tag_attribute_name_prefix_marker) (Leave jsx_tag_attribute_name_prefix_marker)) mdx_jsx_attribute_local_name_before
-    else if eqb b equals_sign then
+    when eqb b colon then whitespace_after (Two (Enter jsx_tag_attribute_name_prefix_marker) (Leave jsx_tag_attribute_name_prefix_marker)) mdx_jsx_attribute_local_name_before
+    else when eqb b equals_sign then
     eat_with mdx_jsx_es_whitespace_start_retried
     (Three (Exit jsx_tag_attribute_name) (Enter jsx_tag_attribute_initializer_marker) (Leave jsx_tag_attribute_initializer_marker))
     (Return mdx_jsx_attribute_value_before)
-    else if attribute_followed b then whitespace_here (Two (Exit jsx_tag_attribute_name) (Exit jsx_tag_attribute)) mdx_jsx_attribute_before
+    else when attribute_followed b then whitespace_here (Two (Exit jsx_tag_attribute_name) (Exit jsx_tag_attribute)) mdx_jsx_attribute_before
     else crash after_attribute_name no_note
 
 -- after the ':' of a key
 abbrev pub attribute_local_name_before : ℕ → Move
 attribute_local_name_before b =
-    if is_id_start b then eat mdx_jsx_attribute_local_name (One (Enter jsx_tag_attribute_name_local))
+    when is_id_start b then eat mdx_jsx_attribute_local_name (One (Enter jsx_tag_attribute_name_local))
     else crash before_local_attribute_name no_note
 
 -- what ends the local part of a key: no `:`
@@ -123,8 +123,8 @@ attribute_local_name b =
 -- after the local part of a key
 abbrev pub attribute_local_name_after : ℕ → Move
 attribute_local_name_after b =
-    if eqb b equals_sign then whitespace_after (Two (Enter jsx_tag_attribute_initializer_marker) (Leave jsx_tag_attribute_initializer_marker)) mdx_jsx_attribute_value_before
-    else if name_followed b then retry mdx_jsx_attribute_before (One (Exit jsx_tag_attribute))
+    when eqb b equals_sign then whitespace_after (Two (Enter jsx_tag_attribute_initializer_marker) (Leave jsx_tag_attribute_initializer_marker)) mdx_jsx_attribute_value_before
+    else when name_followed b then retry mdx_jsx_attribute_before (One (Exit jsx_tag_attribute))
     else crash after_local_attribute_name no_note
 
 -- the quotes that open a value
@@ -134,12 +134,12 @@ opens_value b = among (quotation_mark ∷ apostrophe ∷ []) b
 -- after '=': value ::= double_quoted | single_quoted | expression
 abbrev pub attribute_value_before : ℕ → Move
 attribute_value_before b =
-    if opens_value b then
+    when opens_value b then
     eat_with mdx_jsx_attribute_value_quoted_start
     (Three (Enter jsx_tag_attribute_value_literal) (Enter jsx_tag_attribute_value_literal_marker) (Leave jsx_tag_attribute_value_literal_marker))
     (Quote b)
-    else if eqb b left_brace then retry_with mdx_expression_start Nothing (Return mdx_jsx_attribute_value_expression_after)
-    else if eqb b less_than then crash before_attribute_value element_as_value
+    else when eqb b left_brace then retry_with mdx_expression_start Nothing (Return mdx_jsx_attribute_value_expression_after)
+    else when eqb b less_than then crash before_attribute_value element_as_value
     else crash before_attribute_value no_note
 
 -- after a value that is an expression
@@ -151,12 +151,12 @@ attribute_value_expression_after = whitespace_here (One (Exit jsx_tag_attribute)
 --     single_quoted ::= "'" *single_quoted_text "'"
 abbrev pub attribute_value_quoted_start : ℕ → ℕ → Move
 attribute_value_quoted_start b quote =
-    if eqb b end_of_page then refuse eof in_attribute_value no_note
-    else if eqb b quote then
+    when eqb b end_of_page then refuse eof in_attribute_value no_note
+    else when eqb b quote then
     whitespace_after
     (Four (Enter jsx_tag_attribute_value_literal_marker) (Leave jsx_tag_attribute_value_literal_marker) (Leave jsx_tag_attribute_value_literal) (Leave jsx_tag_attribute))
     mdx_jsx_attribute_before
-    else if eqb b line_feed then whitespace_here Nothing mdx_jsx_attribute_value_quoted_start
+    else when eqb b line_feed then whitespace_here Nothing mdx_jsx_attribute_value_quoted_start
     else retry mdx_jsx_attribute_value_quoted (One (Enter jsx_tag_attribute_value_literal_value))
 
 -- what ends a run of a quoted value: its quote, a line ending, the page's end
@@ -166,5 +166,5 @@ quoted_ends b quote = eqb b quote || (eqb b line_feed || eqb b end_of_page)
 -- in a run of a quoted value
 abbrev pub attribute_value_quoted : ℕ → ℕ → Move
 attribute_value_quoted b quote =
-    if quoted_ends b quote then retry mdx_jsx_attribute_value_quoted_start (One (Exit jsx_tag_attribute_value_literal_value))
+    when quoted_ends b quote then retry mdx_jsx_attribute_value_quoted_start (One (Exit jsx_tag_attribute_value_literal_value))
     else eat mdx_jsx_attribute_value_quoted Nothing

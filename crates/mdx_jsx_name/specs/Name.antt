@@ -5,7 +5,7 @@
 --
 -- docs/SCOPE.md, 'Tag': member names refuse `:`, local names refuse `.` and `:`.
 use Rattle.std.specs.Prelude.{ℕ, Bool, ◌||◌, eqb}
-use Rattle.base.specs.If.{if◌then◌else◌}
+use Rattle.base.specs.If.{when◌then◌else◌}
 use Rattle.base.specs.Range.{within}
 use Rattle.base.specs.Byte.{exclamation_mark, plus_sign, dot, slash, digit9, colon, greater_than, at_sign}
 use Rattle.base.specs.Kind.{
@@ -59,7 +59,7 @@ use Rattle.mdx_jsx.specs.Jsx.{
 
 -- '@' in a name may be meant for a link
 abbrev pub link_note : ℕ → ℕ
-link_note b = if eqb b at_sign then link_in_mdx else no_note
+link_note b = when eqb b at_sign then link_in_mdx else no_note
 
 -- a name starts
 abbrev pub name_starts : Move
@@ -69,18 +69,18 @@ name_starts = eat mdx_jsx_primary_name (Two (Enter jsx_tag_name) (Enter jsx_tag_
 --     '<' [closing] [*whitespace name ..] *whitespace '>'
 abbrev pub name_before : ℕ → Move
 name_before b =
-    if eqb b slash then whitespace_after (Two (Enter jsx_tag_closing_marker) (Leave jsx_tag_closing_marker)) mdx_jsx_closing_tag_name_before
-    else if eqb b greater_than then retry mdx_jsx_tag_end Nothing
-    else if is_id_start b then name_starts
-    else if eqb b exclamation_mark then crash before_name comment_in_mdx
+    when eqb b slash then whitespace_after (Two (Enter jsx_tag_closing_marker) (Leave jsx_tag_closing_marker)) mdx_jsx_closing_tag_name_before
+    else when eqb b greater_than then retry mdx_jsx_tag_end Nothing
+    else when is_id_start b then name_starts
+    else when eqb b exclamation_mark then crash before_name comment_in_mdx
     else crash before_name no_note
 
 -- after the '/' of a closing tag. The Rust's `b'*' | b'/'` is a bitwise or, equal to `/`
 abbrev pub closing_tag_name_before : ℕ → Move
 closing_tag_name_before b =
-    if eqb b greater_than then retry mdx_jsx_tag_end Nothing
-    else if is_id_start b then name_starts
-    else if eqb b slash then crash before_name comment_in_tag
+    when eqb b greater_than then retry mdx_jsx_tag_end Nothing
+    else when is_id_start b then name_starts
+    else when eqb b slash then crash before_name comment_in_tag
     else crash before_name no_note
 
 -- what ends a primary name: white space, `.`, `:`, and what goes on in the tag
@@ -106,15 +106,15 @@ local_starts = whitespace_after (Two (Enter jsx_tag_name_prefix_marker) (Leave j
 -- after the first identifier: [local | members]
 abbrev pub primary_name_after : ℕ → Move
 primary_name_after b =
-    if eqb b dot then member_starts
-    else if eqb b colon then local_starts
-    else if name_followed b then name_ends
+    when eqb b dot then member_starts
+    else when eqb b colon then local_starts
+    else when name_followed b then name_ends
     else crash after_name no_note
 
 -- after the '.' of a member
 abbrev pub member_name_before : ℕ → Move
 member_name_before b =
-    if is_id_start b then eat mdx_jsx_member_name (One (Enter jsx_tag_name_member))
+    when is_id_start b then eat mdx_jsx_member_name (One (Enter jsx_tag_name_member))
     else crash before_member_name no_note
 
 -- what ends a member name: no `:`
@@ -128,8 +128,8 @@ member_name b = in_a_name b (member_name_ends b) mdx_jsx_member_name (One (Exit 
 -- members ::= member *member
 abbrev pub member_name_after : ℕ → Move
 member_name_after b =
-    if eqb b dot then member_starts
-    else if name_followed b then name_ends
+    when eqb b dot then member_starts
+    else when name_followed b then name_ends
     else crash after_member_name no_note
 
 -- `+` and `/` to `9` after `<a:` may be meant for a link
@@ -139,8 +139,8 @@ link_like b = eqb b plus_sign || within slash digit9 b
 -- after the ':' of a local name
 abbrev pub local_name_before : ℕ → Move
 local_name_before b =
-    if is_id_start b then eat mdx_jsx_local_name (One (Enter jsx_tag_name_local))
-    else if link_like b then crash before_local_name link_in_mdx
+    when is_id_start b then eat mdx_jsx_local_name (One (Enter jsx_tag_name_local))
+    else when link_like b then crash before_local_name link_in_mdx
     else crash before_local_name no_note
 
 -- what ends a local name: no `.` and no `:`
@@ -153,4 +153,4 @@ local_name b = in_a_name b (local_name_ends b) mdx_jsx_local_name (One (Exit jsx
 
 -- after a local name
 abbrev pub local_name_after : ℕ → Move
-local_name_after b = if name_followed b then name_ends else crash after_local_name no_note
+local_name_after b = when name_followed b then name_ends else crash after_local_name no_note

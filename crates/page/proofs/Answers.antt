@@ -11,7 +11,7 @@ use mathlib.Core.List.{List}
 use borrow.Author.Tests.{ltb-true, ltb-false, leb-true, leb-false}
 use lib.Dec.{ltb}
 use lib.ListN.{length}
-use Rattle.base.specs.If.{if◌then◌else◌}
+use Rattle.base.specs.If.{when◌then◌else◌}
 use Rattle.base.proofs.Choice.{if_is}
 use Rattle.page.specs.declared.line.Line.{Line}
 use Rattle.page.specs.declared.line.Spot.{Spot}
@@ -40,11 +40,11 @@ module _ (bytes : List ℕ) (at n start : ℕ) where
       (Admitted bytes at n start → P read) → P (page_check bytes at n start)
   by_answers P long misplaced admitted =
       if_is Checked P (ltb page_limit n) TooLong
-      (if ltb n start then BadStart else if lies_inside (length bytes) at n then read else BadStart)
+      (when ltb n start then BadStart else when lies_inside (length bytes) at n then read else BadStart)
       (λ e. long (ltb-true page_limit n e))
       (λ e.
       let short = ltb-false page_limit n e in
-      if_is Checked P (ltb n start) BadStart (if lies_inside (length bytes) at n then read else BadStart)
+      if_is Checked P (ltb n start) BadStart (when lies_inside (length bytes) at n then read else BadStart)
       (λ s. misplaced (short, inl (ltb-true n start s)))
       (λ s.
       if_is Checked P (lies_inside (length bytes) at n) read BadStart

@@ -11,7 +11,7 @@ use lib.Dec.{eqb, ltb}
 use lib.ListN.{length, get_or, drop, drop_of_length-le}
 use borrow.Author.Tests.{ne_eqb, lt-ltb, le-ltb}
 use Rattle.base.specs.Byte.{tab, line_feed, carriage_return}
-use Rattle.base.specs.If.{if◌then◌else◌}
+use Rattle.base.specs.If.{when◌then◌else◌}
 use Rattle.base.proofs.Choice.{if_yes, if_no, or_no}
 use Rattle.base.proofs.Ranges.{within_is}
 use Rattle.base.specs.Page.{byte_at}
@@ -105,7 +105,7 @@ module _ (page : List ℕ) (start : ℕ) where
     reads_ill x line size l e s z = reads_fault x line l e (halts_ill page at here (sym s ∙ z))
 
     -- a line feed or a tab is passed
-    pub reads_shift : (b : ℕ) (next after : Anchor) → b ≡ get_or page at 0 → get_or page at 0 < 0x80 → (get_or page at 0 ≡ carriage_return → ⊥) → next ≡ anchor_past anchor at b → after ≡ (if ltb at start then next else begun) → Reads page start (at + 1) next after
+    pub reads_shift : (b : ℕ) (next after : Anchor) → b ≡ get_or page at 0 → get_or page at 0 < 0x80 → (get_or page at 0 ≡ carriage_return → ⊥) → next ≡ anchor_past anchor at b → after ≡ (when ltb at start then next else begun) → Reads page start (at + 1) next after
     reads_shift b next after q a r e f =
         let here' : Anchors page next (at + 1) = rw (e, q, ← byte_is page at here) (anchors_past page anchor at h.here) in
         let first : at < start → after ≡ next = λ g. f ∙ sym (if_yes Anchor _ next next begun (lt-ltb at start g) refl) in

@@ -9,7 +9,7 @@ use borrow.Author.Tests.{ltb-true, ltb-false}
 use lib.Dec.{ltb, lit<}
 use lib.ListN.{length, get_or, drop, drop_of_length-le}
 use lib.Seq.{drop-cons}
-use Rattle.base.specs.If.{if◌then◌else◌}
+use Rattle.base.specs.If.{when◌then◌else◌}
 use Rattle.base.proofs.Choice.{if_yes, case, and_yes, and_no, and_no'}
 use Rattle.base.proofs.Ranges.{is_within}
 use Rattle.page.specs.Utf8.{Range, Row, holds, holds_at, table, begins, sequence}
@@ -40,7 +40,7 @@ module _ (page : List ℕ) (p q : ℕ) (next : q ≡ p + 1) (r : Range) (row : R
 
 module _ (page : List ℕ) (p : ℕ) (here : p < length page) where
   pub row_at : (r : Range) (row : Row) → Memᴰ (r ∷ row) table → holds r (get_or page p 0) ≡ true →
-      sequence (drop p page) ≡ (if begins row (drop (p + 1) page) then length (r ∷ row) else 0)
+      sequence (drop p page) ≡ (when begins row (drop (p + 1) page) then length (r ∷ row) else 0)
   row_at r row m w = ap sequence (from_place page p here) ∙ by_row r row (get_or page p 0) (drop (p + 1) page) m w
 
   pub past_at : 0xF4 < get_or page p 0 → sequence (drop p page) ≡ 0
@@ -68,12 +68,12 @@ rest (r ∷ row) = row
 -- the byte lies in the first range of a row, and n is what the row then says: n is the sequence's length
 module _ (page : List ℕ) (p byte : ℕ) (here : p < length page) (is : byte ≡ get_or page p 0) where
   by_listed : (row : Row) → Memᴰ row table → (first row).0 ≤ byte → byte ≤ (first row).1 →
-      (n : ℕ) → n ≡ (if begins (rest row) (drop (p + 1) page) then length row else 0) → n ≡ sequence (drop p page)
+      (n : ℕ) → n ≡ (when begins (rest row) (drop (p + 1) page) then length row else 0) → n ≡ sequence (drop p page)
   by_listed [] m low high n e = absurd (row_nonempty m)
   by_listed (r ∷ row) m low high n e =
       e ∙ sym (row_at page p here r row m (is_within r.0 r.1 (get_or page p 0) (omega arith) (omega arith)))
 
   pub by_number : (k : ℕ) → k < length table → (first (get_or table k [])).0 ≤ byte → byte ≤ (first (get_or table k [])).1 →
-      (n : ℕ) → n ≡ (if begins (rest (get_or table k [])) (drop (p + 1) page) then length (get_or table k []) else 0) →
+      (n : ℕ) → n ≡ (when begins (rest (get_or table k [])) (drop (p + 1) page) then length (get_or table k []) else 0) →
       n ≡ sequence (drop p page)
   by_number k h low high n e = by_listed (get_or table k []) (listed k h) low high n e

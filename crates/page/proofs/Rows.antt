@@ -10,7 +10,7 @@ use mathlib.Core.List.{List, [], ◌∷◌, Memᴰ}
 use borrow.Author.Tests.{leb-true}
 use lib.Dec.{leb}
 use lib.ListN.{length, get_or, drop}
-use Rattle.base.specs.If.{if◌then◌else◌}
+use Rattle.base.specs.If.{when◌then◌else◌}
 use Rattle.base.proofs.Choice.{if_yes, if_no, case, and_no, both}
 use Rattle.base.specs.Range.{within}
 use Rattle.base.proofs.Ranges.{below, above}
@@ -76,7 +76,7 @@ none_below k ((r ∷ row) ∷ rows) b t a h =
 
 -- the row whose first range holds the first byte decides
 abbrev pub Decided : Range → Row → ℕ → List ℕ → List Row → Type 0
-Decided r row b t rows = sequence_in rows (b ∷ t) ≡ (if begins row t then length (r ∷ row) else 0)
+Decided r row b t rows = sequence_in rows (b ∷ t) ≡ (when begins row t then length (r ∷ row) else 0)
 
 -- when it stands at the head of the rows,
 own_row : (k : ℕ) (r : Range) (row : Row) (rows : List Row) (b : ℕ) (t : List ℕ) →

@@ -3,7 +3,7 @@
 -- 1, 5, 9, ..; past any other byte it is one more: whatever the scan's start." It is the Rust's `move_one`, byte by byte.
 use Rattle.std.specs.Prelude.{ℕ, zero, suc, ◌+◌, ◌-◌, ◌*◌, ◌/◌, List, eqb}
 use Rattle.base.specs.Byte.{tab, line_feed}
-use Rattle.base.specs.If.{if◌then◌else◌}
+use Rattle.base.specs.If.{when◌then◌else◌}
 use Rattle.base.specs.Page.{byte_at}
 use Rattle.base.specs.Tab.{tab_size}
 use Rattle.page.specs.declared.line.Line.{Line}
@@ -12,7 +12,7 @@ use Rattle.page.specs.declared.line.Anchor.{Anchor}
 
 unfoldable pub line_of : List ℕ → ℕ → ℕ
 line_of page zero = 1
-line_of page (suc o) = if eqb (byte_at page o) line_feed then line_of page o + 1 else line_of page o
+line_of page (suc o) = when eqb (byte_at page o) line_feed then line_of page o + 1 else line_of page o
 
 -- the column behind a tab: the first behind column c of those that are one more than a multiple of the tab's size
 abbrev pub tab_stop : ℕ → ℕ
@@ -20,11 +20,11 @@ tab_stop c = (c + 3) / tab_size * tab_size + 1
 
 -- the column behind the byte b, which is no line feed and stands in column c
 abbrev pub column_behind : ℕ → ℕ → ℕ
-column_behind c b = if eqb b tab then tab_stop c else c + 1
+column_behind c b = when eqb b tab then tab_stop c else c + 1
 
 unfoldable pub column_of : List ℕ → ℕ → ℕ
 column_of page zero = 1
-column_of page (suc o) = if eqb (byte_at page o) line_feed then 1 else column_behind (column_of page o) (byte_at page o)
+column_of page (suc o) = when eqb (byte_at page o) line_feed then 1 else column_behind (column_of page o) (byte_at page o)
 
 -- a place with its line and column
 abbrev pub spot : ℕ → ℕ → ℕ → Spot
@@ -48,7 +48,7 @@ next_line line = record { number = line.number + 1; column = 1 }
 
 -- those of the offset past the byte b
 abbrev pub passed_line : Line → ℕ → Line
-passed_line line b = if eqb b line_feed then next_line line else record { number = line.number; column = column_behind line.column b }
+passed_line line b = when eqb b line_feed then next_line line else record { number = line.number; column = column_behind line.column b }
 
 -- n columns further
 abbrev pub onward : ℕ → Line → Line

@@ -1,6 +1,6 @@
 -- A page that is handed over (docs/SCOPE.md, the answer table, rows 2, 3 and 4).
 use Rattle.std.specs.Prelude.{ℕ, ◌+◌, ◌≤◌, Bool, List, leb, ltb, length, take, drop}
-use Rattle.base.specs.If.{if◌then◌else◌}
+use Rattle.base.specs.If.{when◌then◌else◌}
 use Rattle.base.specs.Page.{page_limit}
 use Rattle.page.specs.declared.Checked.{Checked}
 use Rattle.page.specs.declared.Checked.TheVariants.{Good, TooLong, BadStart, BadText}
@@ -28,7 +28,7 @@ checked_by page start (fault o) = BadText (spot_at page o)
 -- The answer, the refusals in the order of their numbers. When each is given, both ways: proofs/Answers.antt.
 abbrev pub page_check : List ℕ → ℕ → ℕ → ℕ → Checked
 page_check bytes at n start =
-    if ltb page_limit n then TooLong
-    else if ltb n start then BadStart
-    else if lies_inside (length bytes) at n then checked_by (page_of bytes at n) start (read_text (page_of bytes at n))
+    when ltb page_limit n then TooLong
+    else when ltb n start then BadStart
+    else when lies_inside (length bytes) at n then checked_by (page_of bytes at n) start (read_text (page_of bytes at n))
     else BadStart

@@ -3,7 +3,7 @@
 use Rattle.std.specs.Prelude.{ℕ, zero, suc, ◌+◌, ◌-◌, ◌<◌, ◌≡◌, ◌||◌, ◌⊎◌, eqb, length, get_or, take, drop}
 use mathlib.Core.List.{List, [], ◌∷◌, Memᴰ}
 use Rattle.base.specs.Byte.{carriage_return}
-use Rattle.base.specs.If.{if◌then◌else◌}
+use Rattle.base.specs.If.{when◌then◌else◌}
 use Rattle.page.specs.Utf8.{sequence, Begins, WellFormed}
 
 -- what a reading finds: no fault, or the first one's offset
@@ -15,7 +15,7 @@ pub data Reading : Type 0 where
 unfoldable pub read_from : ℕ → ℕ → List ℕ → Reading
 read_from skip at [] = good
 read_from zero at (b ∷ t) =
-    if eqb b carriage_return || eqb (sequence (b ∷ t)) 0 then fault at
+    when eqb b carriage_return || eqb (sequence (b ∷ t)) 0 then fault at
     else read_from (sequence (b ∷ t) - 1) (at + 1) t
 read_from (suc k) at (b ∷ t) = read_from k (at + 1) t
 

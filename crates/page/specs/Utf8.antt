@@ -1,7 +1,7 @@
 -- Unicode's Table 3-7, "Well-Formed UTF-8 Byte Sequences": which bytes make one character.
 use Rattle.std.specs.Prelude.{ℕ, ◌≡◌, Bool, true, false, ◌&&◌, ltb, length, get_or}
 use mathlib.Core.List.{List, [], ◌∷◌, ◌++◌, Memᴰ}
-use Rattle.base.specs.If.{if◌then◌else◌}
+use Rattle.base.specs.If.{when◌then◌else◌}
 use Rattle.base.specs.Range.{within}
 
 -- a byte's range, both ends in it
@@ -46,7 +46,7 @@ begins (r ∷ row) (b ∷ t) = holds r b && begins row t
 -- how many bytes the sequence takes with which the text begins: as many as the row has that it is of; 0 where it is of none
 unfoldable pub sequence_in : List Row → List ℕ → ℕ
 sequence_in [] t = 0
-sequence_in (row ∷ rows) t = if begins row t then length row else sequence_in rows t
+sequence_in (row ∷ rows) t = when begins row t then length row else sequence_in rows t
 
 abbrev pub sequence : List ℕ → ℕ
 sequence t = sequence_in table t

@@ -3,7 +3,7 @@
 
 ghost use Rattle.std.specs.Prelude.{◌≡◌, ◌||◌, ◌+◌, ◌≤◌, ◌<◌, eqb, length, get_or, drop, [], ◌∷◌};
 ghost use Rattle.base.specs.Byte.{tab, line_feed};
-ghost use Rattle.base.specs.If.{if◌then◌else◌};
+ghost use Rattle.base.specs.If.{when◌then◌else◌};
 ghost use Rattle.base.specs.Page.{page_limit};
 ghost use Rattle.page.specs.Utf8.{holds_at, begins, tail, sequence};
 ghost use Rattle.page.specs.declared.Checked.TheVariants as checked;
@@ -121,7 +121,7 @@ fn shifts(b: u16) -> bool
 
 // The anchor of the start, as far as it is known: one that stands no later than the start takes the place of the one before it.
 fn begun_by(anchor: Anchor, begun: Anchor, before: bool) -> Anchor
-    ensures { result ≡ (if before then anchor else begun) }
+    ensures { result ≡ (when before then anchor else begun) }
 {
     if before {
         return anchor;
@@ -214,7 +214,7 @@ fn stands(page: &[u8], at: usize, low: u8, high: u8) -> bool
 // and below is the length of the sequence, or 0.
 fn two(page: &[u8], at: usize) -> usize
     requires { at < length page.now }
-    ensures { result ≡ (if begins (tail ∷ []) (drop (at + 1) page.now) then 2 else 0) }
+    ensures { result ≡ (when begins (tail ∷ []) (drop (at + 1) page.now) then 2 else 0) }
 {
     if stands(page, at + 1, 0x80, 0xBF) {
         return 2;
@@ -225,7 +225,7 @@ fn two(page: &[u8], at: usize) -> usize
 // Three bytes, of which the second lies in a range of its own.
 fn three(page: &[u8], at: usize, low: u8, high: u8) -> usize
     requires { at < length page.now }
-    ensures { result ≡ (if begins ((low, high) ∷ tail ∷ []) (drop (at + 1) page.now) then 3 else 0) }
+    ensures { result ≡ (when begins ((low, high) ∷ tail ∷ []) (drop (at + 1) page.now) then 3 else 0) }
 {
     if stands(page, at + 1, low, high) {
         if stands(page, at + 2, 0x80, 0xBF) {
@@ -238,7 +238,7 @@ fn three(page: &[u8], at: usize, low: u8, high: u8) -> usize
 // Four bytes, of which the second lies in a range of its own.
 fn four(page: &[u8], at: usize, low: u8, high: u8) -> usize
     requires { at < length page.now }
-    ensures { result ≡ (if begins ((low, high) ∷ tail ∷ tail ∷ []) (drop (at + 1) page.now) then 4 else 0) }
+    ensures { result ≡ (when begins ((low, high) ∷ tail ∷ tail ∷ []) (drop (at + 1) page.now) then 4 else 0) }
 {
     if stands(page, at + 1, low, high) {
         if stands(page, at + 2, 0x80, 0xBF) {

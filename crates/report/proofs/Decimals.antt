@@ -4,12 +4,12 @@ use native.Mathlib.Nat.{pow-suc, one-le-pow}
 use native.Mathlib.Omega.{arith}
 use mathlib.Core.Path.{◌≡◌}
 use borrow.Author.Tests.{lt-ltb, le-ltb}
-use Rattle.base.specs.If.{if◌then◌else◌}
+use Rattle.base.specs.If.{when◌then◌else◌}
 use Rattle.io.specs.Digits.{last_digits, IsDigitCount}
 use Rattle.report.specs.Decimal.{digits_up_to, decimal}
 
 up_to : (k fuel n : ℕ) → IsDigitCount 10 1 n k → n < fuel → last_digits 10 k n ≡ digits_up_to fuel n
-unfolding digits_up_to if◌then◌else◌
+unfolding digits_up_to when◌then◌else◌
 up_to k zero n f h = absurd (omega arith)
 up_to zero (suc fuel) n f h = absurd (omega (arith, f.0))
 up_to (suc zero) (suc fuel) n f h =

@@ -7,7 +7,7 @@ use borrow.Author.Tests.{eqb-true, eqb-false}
 use lib.Dec.{eqb}
 use lib.ListN.{length, get_or, set, length-set, length-map, get_or-map}
 use lib.Seq.{get_or-set_same, get_or-set_other, ext_get_or}
-use Rattle.base.specs.If.{if◌then◌else◌}
+use Rattle.base.specs.If.{when◌then◌else◌}
 use Rattle.base.proofs.Choice.{case}
 use Rattle.report.specs.Small.{small_of, in_small}
 
@@ -41,6 +41,6 @@ one_more_lem s t i v u h e =
     }
 
 pub all_small : (s t : List ℕ) (i : ℕ) → UpTo s t i → length t ≤ i → t ≡ in_small s
-unfolding small_of if◌then◌else◌
+unfolding small_of when◌then◌else◌
 all_small s t i u h =
     ext_get_or 0 t (in_small s) (u.long ∙ sym (length-map s small_of)) (λ k l. u.passed k (omega (arith, u.long)) ∙ sym (get_or-map small_of s k 0))

@@ -9,24 +9,24 @@ use lib.Dec.{ltb}
 use lib.ListN.{length, set, length-append}
 use lib.Seq.{sets, length-sets}
 use borrow.Author.Tests.{ltb-true, ltb-false, le-ltb}
-use Rattle.base.specs.If.{if◌then◌else◌}
+use Rattle.base.specs.If.{when◌then◌else◌}
 use Rattle.base.proofs.Choice.{case, picks}
 use Rattle.report.specs.Put.{Put, outcome, in_room, put_from, put_of, text_of}
 
 -- ---- a place inside the buffer
 
 pub room_of : (room at : ℕ) → at ≤ room → in_room room at ≡ at
-unfolding if◌then◌else◌
+unfolding when◌then◌else◌
 room_of room at h = case (in_room room at ≡ at) (ltb at room) (λ y. rw y) (λ n. rw n (omega (arith, ltb-false at room n)))
 
 pub in_room_lem : (room at : ℕ) → in_room room at ≤ room
-unfolding if◌then◌else◌
+unfolding when◌then◌else◌
 in_room_lem room at = case (in_room room at ≤ room) (ltb at room) (λ y. rw y (omega (arith, ltb-true at room y))) (λ n. rw n (omega arith))
 
 -- ---- one piece after the other
 
 from_append : (out : List ℕ) (at : ℕ) (ps qs : List (List ℕ)) → put_from out at (ps ++ qs) ≡ put_from (put_from out at ps).buffer (put_from out at ps).place qs
-unfolding put_from if◌then◌else◌
+unfolding put_from when◌then◌else◌
 from_append out at [] qs = refl
 from_append out at (p ∷ ps) qs =
     case (put_from out at ((p ∷ ps) ++ qs) ≡ put_from (put_from out at (p ∷ ps)).buffer (put_from out at (p ∷ ps)).place qs) (ltb (length out - at) (length p))
@@ -34,7 +34,7 @@ from_append out at (p ∷ ps) qs =
     (λ n. rw n (from_append (sets out at p) (at + length p) ps qs))
 
 from_within : (out : List ℕ) (at : ℕ) (ps : List (List ℕ)) → at ≤ length out → (put_from out at ps).place ≤ length (put_from out at ps).buffer
-unfolding put_from if◌then◌else◌
+unfolding put_from when◌then◌else◌
 from_within out at [] h = h
 from_within out at (p ∷ ps) h =
     case ((put_from out at (p ∷ ps)).place ≤ length (put_from out at (p ∷ ps)).buffer) (ltb (length out - at) (length p))
@@ -68,7 +68,7 @@ sets_append (x ∷ a) b out at =
     ap (λ (k : ℕ). sets (sets (set out at x) (suc at) a) k b) e ∙ sets_append a b (set out at x) (suc at)
 
 from_whole : (out : List ℕ) (at : ℕ) (ps : List (List ℕ)) → at + length (text_of ps) ≤ length out → put_from out at ps ≡ outcome (at + length (text_of ps)) (sets out at (text_of ps))
-unfolding put_from if◌then◌else◌
+unfolding put_from when◌then◌else◌
 from_whole out at [] h = rw add-zero
 from_whole out at (p ∷ ps) h =
     let l = length-append p (text_of ps) in

@@ -3,7 +3,7 @@ use Prim.Native.Nat.{ℕ}
 use mathlib.Core.Path.{◌≡◌, refl}
 use mathlib.Core.List.{List, [], ◌∷◌}
 use lib.Dec.{eqb}
-use Rattle.base.specs.If.{if◌then◌else◌}
+use Rattle.base.specs.If.{when◌then◌else◌}
 use Rattle.base.specs.Number.{no_place}
 use Rattle.base.specs.Table.{find}
 use Rattle.page.specs.declared.line.Spot.{Spot}
@@ -31,7 +31,7 @@ use Rattle.report.specs.AnswerText.{answer_names, answer_name}
 use Rattle.report.specs.Told.{told_of, carried}
 
 pub told_is_said : (a : Answer) → said (told_of a).number (carried (told_of a)) ≡ said_by a
-unfolding carried if◌then◌else◌
+unfolding carried when◌then◌else◌
 told_is_said (Done end made) = refl
 told_is_said (Nok made) = refl
 told_is_said TooLong = refl
@@ -78,9 +78,9 @@ named (a ∷ rest) = ((said_by a).number, answer_name (said_by a).number) ∷ na
 -- the table but for the answer that a worker alone gives
 abbrev of_scans : List (ℕ × List ℕ) → List (ℕ × List ℕ)
 of_scans [] = []
-of_scans (e ∷ es) = if eqb e.0 no_place then of_scans es else e ∷ of_scans es
+of_scans (e ∷ es) = when eqb e.0 no_place then of_scans es else e ∷ of_scans es
 
 -- the table names every answer, each under its number, and nothing else
 pub every_number_is_named : (p : Spot) (made : Tally) → named (cases p made) ≡ of_scans answer_names
-unfolding answer_name find if◌then◌else◌
+unfolding answer_name find when◌then◌else◌
 every_number_is_named p made = refl

@@ -1,14 +1,14 @@
 -- A number's decimal digits, as few as it has.
 use Rattle.std.specs.Prelude.{ℕ, zero, suc, ◌/◌, ◌%◌, Bool, true, false, List, [], ◌∷◌, ◌++◌, ltb}
 use Rattle.base.specs.Byte.{space}
-use Rattle.base.specs.If.{if◌then◌else◌}
+use Rattle.base.specs.If.{when◌then◌else◌}
 use Rattle.io.specs.Digits.{hex_digit_ascii}
 
 -- the digits of a number that has at most k, the highest first
 unfoldable pub digits_up_to : ℕ → ℕ → List ℕ
 digits_up_to zero n = []
 digits_up_to (suc k) n =
-    if ltb n 10 then hex_digit_ascii n ∷ []
+    when ltb n 10 then hex_digit_ascii n ∷ []
     else digits_up_to k (n / 10) ++ (hex_digit_ascii (n % 10) ∷ [])
 
 -- no number n has more than n + 1 digits

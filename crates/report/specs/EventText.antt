@@ -1,7 +1,7 @@
 -- An event as text: a mark, or a line.
 use Rattle.std.specs.Prelude.{ℕ, Bool, true, false, List, [], ◌∷◌, ◌++◌, eqb}
 use Rattle.base.specs.Byte.{line_feed, space, plus_sign, hyphen, colon, at_sign}
-use Rattle.base.specs.If.{if◌then◌else◌}
+use Rattle.base.specs.If.{when◌then◌else◌}
 use Rattle.base.specs.Tab.{columns_of}
 use Rattle.base.specs.declared.InTab.{InTab}
 use Rattle.events.specs.declared.Event.{Event}
@@ -28,7 +28,7 @@ tilde = 126
 
 -- a joint and the columns of a tab that are passed there, as `~2`; nothing outside a tab
 abbrev pub tab_pieces : List ℕ → InTab → List (List ℕ)
-tab_pieces joint tab = if eqb (columns_of tab) 0 then [] else joined_pieces joint (columns_of tab)
+tab_pieces joint tab = when eqb (columns_of tab) 0 then [] else joined_pieces joint (columns_of tab)
 
 -- ` -line-prefix@2:2:3~2`
 abbrev pub mark_pieces : Event → List (List ℕ)

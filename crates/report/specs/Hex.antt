@@ -1,11 +1,11 @@
 -- Bytes as pairs of hex digits, in lower case; `-` where there are none.
 use Rattle.std.specs.Prelude.{ℕ, ◌+◌, ◌/◌, ◌%◌, List, [], ◌∷◌, ltb}
 use Rattle.base.specs.Byte.{digit0, hyphen}
-use Rattle.base.specs.If.{if◌then◌else◌}
+use Rattle.base.specs.If.{when◌then◌else◌}
 
 -- of a number below 16
 unfoldable pub digit_of : ℕ → ℕ
-digit_of n = if ltb n 10 then digit0 + n else 87 + n
+digit_of n = when ltb n 10 then digit0 + n else 87 + n
 
 unfoldable pub hex_of : List ℕ → List ℕ
 hex_of [] = []

@@ -1,6 +1,6 @@
 -- The names of the kinds of an event, as bytes.
 use Rattle.std.specs.Prelude.{ℕ, List, [], ◌∷◌, ltb}
-use Rattle.base.specs.If.{if◌then◌else◌}
+use Rattle.base.specs.If.{when◌then◌else◌}
 use Rattle.base.specs.Table.{find}
 
 -- unknown
@@ -99,7 +99,7 @@ last_name n = find n last_names unknown
 
 unfoldable pub kind_name : ℕ → List ℕ
 kind_name n =
-    if ltb n 7 then expression_name n
-    else if ltb n 18 then tag_name n
-    else if ltb n 29 then attribute_name n
+    when ltb n 7 then expression_name n
+    else when ltb n 18 then tag_name n
+    else when ltb n 29 then attribute_name n
     else last_name n

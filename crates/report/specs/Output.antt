@@ -1,7 +1,7 @@
 -- A buffer on its way to standard output: it is written out, and begun again at its start, where so many bytes more do not fit.
 use Rattle.std.specs.Prelude.{ℕ, ◌-◌, ◌*◌, ◌/◌, List, [], ◌∷◌, eqb, ltb, length}
 use Rattle.base.specs.Byte.{line_feed, space}
-use Rattle.base.specs.If.{if◌then◌else◌}
+use Rattle.base.specs.If.{when◌then◌else◌}
 use Rattle.events.specs.declared.Event.{Event}
 use Rattle.events.specs.Room.{held_in}
 use Rattle.events.specs.Words.{events_in}
@@ -10,7 +10,7 @@ use Rattle.report.specs.Put.{Put, outcome, in_room, put_of}
 
 -- where to go on
 unfoldable pub free_place : ℕ → ℕ → ℕ → ℕ
-free_place room used count = if ltb (room - in_room room used) count then 0 else in_room room used
+free_place room used count = when ltb (room - in_room room used) count then 0 else in_room room used
 
 -- as much as a number takes: 2^64 has 20 digits
 abbrev pub number_room : ℕ
@@ -19,8 +19,8 @@ number_room = 20
 -- what a field of so many bytes takes of a buffer with so much room
 unfoldable pub field_room : ℕ → ℕ → ℕ
 field_room room count =
-    if eqb count 0 then 1
-    else if ltb (room / 2) count then room
+    when eqb count 0 then 1
+    else when ltb (room / 2) count then room
     else count * 2
 
 -- more than an event takes
@@ -46,7 +46,7 @@ bad_lines = space ∷ 98 ∷ 97 ∷ 100 ∷ space ∷ 108 ∷ 105 ∷ 110 ∷ 10
 -- how many there were, if any
 unfoldable pub bad_lines_put : List ℕ → ℕ → ℕ → Put
 bad_lines_put out used count =
-    if eqb count 0 then outcome used out
+    when eqb count 0 then outcome used out
     else put_of out (free_place (length out) used bad_line_room) (decimal count ∷ bad_lines ∷ [])
 
 -- the events one after the other, each by its pieces

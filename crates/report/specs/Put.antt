@@ -1,7 +1,7 @@
 -- Text put into a lent buffer, piece by piece, each whole or not at all.
 use Rattle.std.specs.Prelude.{ℕ, ◌+◌, ◌-◌, List, [], ◌∷◌, ◌++◌, ltb, length}
 use Rattle.std.proofs.lemmas.List.Edits.{sets}
-use Rattle.base.specs.If.{if◌then◌else◌}
+use Rattle.base.specs.If.{when◌then◌else◌}
 
 -- what came of it: the place past what was put, and the buffer
 pub record Put : Type 0 where
@@ -13,13 +13,13 @@ outcome place buffer = record { place = place; buffer = buffer }
 
 -- a place past the end counts as the end
 abbrev pub in_room : ℕ → ℕ → ℕ
-in_room room at = if ltb at room then at else room
+in_room room at = when ltb at room then at else room
 
 -- the pieces one after the other, from a place inside the buffer on; one that does not fit is left out
 unfoldable pub put_from : List ℕ → ℕ → List (List ℕ) → Put
 put_from out at [] = outcome at out
 put_from out at (piece ∷ pieces) =
-    if ltb (length out - at) (length piece) then put_from out at pieces
+    when ltb (length out - at) (length piece) then put_from out at pieces
     else put_from (sets out at piece) (at + length piece) pieces
 
 -- from any place on

@@ -1,6 +1,6 @@
 -- An answer's number and values, each under a name of its own; together they are what the answer table of docs/SCOPE.md lists.
 use Rattle.std.specs.Prelude.{ℕ, ◌-◌, true, false, List, [], ◌∷◌, ◌++◌, take}
-use Rattle.base.specs.If.{if◌then◌else◌}
+use Rattle.base.specs.If.{when◌then◌else◌}
 use Rattle.page.specs.declared.line.Spot.{Spot}
 use Rattle.scan.specs.declared.Tally.{Tally}
 use Rattle.scan.specs.declared.Answer.{Answer}
@@ -89,6 +89,6 @@ told_of Kept = bare_told 33
 unfoldable pub carried : Told → List ℕ
 carried t =
     take t.values (t.first ∷ [])
-    ++ ((if t.placed then t.line ∷ t.column ∷ [] else [])
+    ++ ((when t.placed then t.line ∷ t.column ∷ [] else [])
     ++ (take (t.values - 1) (t.second ∷ t.third ∷ [])
-    ++ (if t.counted then t.events ∷ t.steps ∷ [] else [])))
+    ++ (when t.counted then t.events ∷ t.steps ∷ [] else [])))

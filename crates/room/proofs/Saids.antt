@@ -4,7 +4,7 @@ use mathlib.Core.Path.{◌≡◌, refl, sym, ap, ◌∙◌}
 use mathlib.Core.List.{List, [], ◌∷◌}
 use lib.Dec.{eqb}
 use lib.ListN.{get_or}
-use Rattle.base.specs.If.{if◌then◌else◌}
+use Rattle.base.specs.If.{when◌then◌else◌}
 use Rattle.scan.specs.Answer.{Said}
 use Rattle.room.specs.declared.Enough.{Enough}
 use Rattle.room.specs.declared.Enough.TheVariants.{Words, TooLong}
@@ -15,10 +15,10 @@ use Rattle.room.specs.Room.{enough_by, longest_by}
 -- ---- the words, read back
 
 enough_said : Said → Enough
-enough_said a = if eqb a.number 40 then Words (get_or a.values 0 0) else TooLong
+enough_said a = when eqb a.number 40 then Words (get_or a.values 0 0) else TooLong
 
 enough_back : (e : Enough) → enough_said (enough_by e) ≡ e
-unfolding enough_said if◌then◌else◌
+unfolding enough_said when◌then◌else◌
 enough_back (Words n) = refl
 enough_back TooLong = refl
 

@@ -1,7 +1,7 @@
 -- How much event room is enough. docs/SCOPE.md, 'Event room': "a scan over n bytes from its start writes at most 6(n+1) events, so never
 -- answers 10 with that room". That it is enough is no part of the definitions here: crates `scan_theorems` and `worker_theorems` prove it.
 use Rattle.std.specs.Prelude.{ℕ, ◌+◌, ◌-◌, ◌*◌, ◌/◌, List, [], ◌∷◌, leb, ltb}
-use Rattle.base.specs.If.{if◌then◌else◌}
+use Rattle.base.specs.If.{when◌then◌else◌}
 use Rattle.base.specs.Number as number
 use Rattle.base.specs.Page.{page_limit}
 use Rattle.events.specs.Words.{width, room_in}
@@ -22,7 +22,7 @@ events_enough n = at_each_byte * (n + 1)
 -- ---- "a call giving the words for a page length, refusing lengths over the page limit with 2"
 
 unfoldable pub enough_of : ℕ → Said
-enough_of n = if leb n page_limit then said number.enough (events_enough n * width ∷ []) else said number.too_long []
+enough_of n = when leb n page_limit then said number.enough (events_enough n * width ∷ []) else said number.too_long []
 
 -- what each case of the enum says. 40 is docs/NUMBERS.md's
 abbrev pub enough_by : Enough → Said
@@ -34,8 +34,8 @@ enough_by TooLong = said 2 []
 -- the longest page for which a room of so many events is enough
 unfoldable pub longest_of : ℕ → List ℕ
 longest_of room =
-    if ltb room (events_enough 0) then []
-    else if leb (events_enough page_limit) room then page_limit ∷ []
+    when ltb room (events_enough 0) then []
+    else when leb (events_enough page_limit) room then page_limit ∷ []
     else (room / at_each_byte - 1) ∷ []
 
 -- in every place of a worker over a buffer of so many words

@@ -4,7 +4,7 @@ use native.Mathlib.Omega.{arith}
 use mathlib.Core.Path.{◌≡◌, refl, sym, ap, ◌∙◌}
 use mathlib.Core.Bool.{true}
 use mathlib.Core.List.{List}
-use Rattle.base.specs.If.{if◌then◌else◌}
+use Rattle.base.specs.If.{when◌then◌else◌}
 use Rattle.base.proofs.Choice.{case}
 use Rattle.page.specs.declared.line.Line.{Line}
 use Rattle.page.specs.Page.{page_of, page_check, Admitted}
@@ -25,7 +25,7 @@ module _ (bytes : List ℕ) (at n start construct kind flags words : ℕ) where
     pub listed : numbers_listed construct kind flags ≡ true
 
   pub begins : (s : Scan) → begin_of bytes at n start construct kind flags words ≡ started s → Begins s
-  unfolding begin_of if◌then◌else◌
+  unfolding begin_of when◌then◌else◌
   begins s e =
       case _ (numbers_listed construct kind flags)
       (λ l. by l (page_check bytes at n start) refl (rw l at e))

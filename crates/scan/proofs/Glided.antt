@@ -9,7 +9,7 @@ use mathlib.Core.List.{List}
 use lib.ListN.{length, get_or}
 use lib.Dec.{eqb, ltb}
 use borrow.Author.Tests.{lt-ltb, le-ltb, ltb-true, ltb-false, eq-eqb}
-use Rattle.base.specs.If.{if◌then◌else◌}
+use Rattle.base.specs.If.{when◌then◌else◌}
 use Rattle.base.proofs.Choice.{if_yes, if_no, if_is}
 use Rattle.base.specs.Byte.{end_of_page}
 use Rattle.base.specs.Page.{byte_at}
@@ -111,7 +111,7 @@ module _ (page : List ℕ) (name quote at left : ℕ) (within : at ≤ length pa
 
 -- one more byte, after k of them
 one_passed : (s : Scan) (k : ℕ) → s.tokenizer.at + k < s.tokenizer.job.length → passed_scan s (suc k) ≡ moved_scan (passed_scan s k) (eat s.tokenizer.state Nothing) 0 (passed_lines (passed_scan s k).lines 1)
-unfolding counted_on moved if◌then◌else◌
+unfolding counted_on moved when◌then◌else◌
 one_passed s k h =
     let next : s.tokenizer.at + suc k ≡ s.tokenizer.at + k + 1 = omega arith in
     let same : s.used + 0 ≡ s.used = omega arith in
@@ -119,7 +119,7 @@ one_passed s k h =
 
 -- the first of them, which leaves a tab that the scan was inside
 first_passed : (s : Scan) → s.tokenizer.at < s.tokenizer.job.length → passed_scan s 1 ≡ moved_scan s (eat s.tokenizer.state Nothing) 0 (passed_lines s.lines 1)
-unfolding counted_on moved if◌then◌else◌
+unfolding counted_on moved when◌then◌else◌
 first_passed s h =
     let same : s.used + 0 ≡ s.used = omega arith in
     rw (lt-ltb s.tokenizer.at s.tokenizer.job.length h, same)

@@ -6,7 +6,7 @@ use mathlib.Core.List.{List, [], ◌∷◌, ◌++◌, append_assoc, append-nil}
 use lib.ListN.{length, take, drop, length-append, length-drop}
 use lib.Seq.{take_at, drop-append-add, drop-drop}
 use borrow.Author.Tests.{ltb-false}
-use Rattle.base.specs.If.{if◌then◌else◌}
+use Rattle.base.specs.If.{when◌then◌else◌}
 use Rattle.base.proofs.Choice.{if_is, case}
 use Rattle.base.specs.State.{full}
 use Rattle.base.specs.Decide.{retry, count_of}
@@ -95,11 +95,11 @@ module _ (lent : List ℕ) (s : Scan) (words : List ℕ) (events : List Event) (
         }
 
     after_run : Stands lent (run_of page k s words).scan (run_of page k s words).words (events ++ call_events (run page k) s words)
-    unfolding run_of if◌then◌else◌
+    unfolding run_of when◌then◌else◌
     after_run = case _ (runnable s (length page) (length words) k) (λ e. rw e ran) (λ e. rw (e, append-nil) h)
 
   after_give : (v : Verdict) → Stands lent (give_of s v).scan words (events ++ [])
-  unfolding give_of given_scan if◌then◌else◌
+  unfolding give_of given_scan when◌then◌else◌
   after_give v =
       case _ (givable s v)
       (λ e. rw (e, append-nil) (record { holds = record { count = h.holds.count; hold = h.holds.hold; fits = h.holds.fits }; job = h.job; room = h.room }))

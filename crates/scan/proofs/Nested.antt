@@ -8,7 +8,7 @@ use lib.ListN.{length}
 use lib.Dec.{eqb}
 use borrow.Author.Tests.{lt-ltb, eqb-true}
 use Rattle.base.specs.Byte.{tab, line_feed, left_brace, right_brace, end_of_page}
-use Rattle.base.specs.If.{if◌then◌else◌}
+use Rattle.base.specs.If.{when◌then◌else◌}
 use Rattle.base.proofs.Choice.{case, both, or_cases, not_yes}
 use Rattle.base.specs.Page.{byte_at}
 use Rattle.base.specs.Decide.{eat_with}
@@ -38,7 +38,7 @@ record Deepens (page : List ℕ) (s : Scan) (b : ℕ) (effect : Effect) : Type 0
 
 module _ (page words : List ℕ) (s : Scan) (b : ℕ) (byte : b ≡ byte_at page s.tokenizer.at) (inside : s.tokenizer.at < s.tokenizer.job.length) where
   nested_moves : (effect : Effect) → Deepens page s b effect → nested_scan s b ≡ moved_scan s (eat_with s.tokenizer.state Nothing effect) 0 (passed_lines s.lines 1)
-  unfolding moved counted_on if◌then◌else◌
+  unfolding moved counted_on when◌then◌else◌
   nested_moves effect d =
       let same : s.used + 0 ≡ s.used = omega arith in
       rw (lt-ltb s.tokenizer.at s.tokenizer.job.length inside, d.place, d.depth, same)
@@ -55,15 +55,15 @@ module _ (page words : List ℕ) (s : Scan) (b : ℕ) (byte : b ≡ byte_at page
 
   -- past a `{` that is counted, one that is not, and a `}`
   open_depth : eqb b left_brace ≡ true → s.tokenizer.job.asks ≡ false → Deepens page s b Deeper
-  unfolding if◌then◌else◌
+  unfolding when◌then◌else◌
   open_depth o a = record { place = λ n. refl; depth = λ n. rw (o, a); lines = λ n t. refl }
 
   kept_depth : eqb b left_brace ≡ true → s.tokenizer.job.asks ≡ true → Deepens page s b Keep
-  unfolding if◌then◌else◌
+  unfolding when◌then◌else◌
   kept_depth o a = record { place = λ n. refl; depth = λ n. rw (o, a); lines = λ n t. refl }
 
   shut_depth : eqb b left_brace ≡ false → Deepens page s b Shallower
-  unfolding if◌then◌else◌
+  unfolding when◌then◌else◌
   shut_depth o = record { place = λ n. refl; depth = λ n. rw o; lines = λ n t. refl }
 
   passes_open : s.tokenizer.state ≡ 34 → eqb b left_brace ≡ true → Passed

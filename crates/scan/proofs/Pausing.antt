@@ -5,7 +5,7 @@ use native.Mathlib.Nat.{zero-add, suc-add, add-zero}
 use mathlib.Core.Path.{◌≡◌, refl, sym, ap, ◌∙◌}
 use mathlib.Core.List.{List, [], ◌∷◌, ◌++◌, append_assoc}
 use lib.ListN.{length-append}
-use Rattle.base.specs.If.{if◌then◌else◌}
+use Rattle.base.specs.If.{when◌then◌else◌}
 use Rattle.base.proofs.Choice.{case}
 use Rattle.base.specs.State.{rests}
 use Rattle.events.specs.declared.Event.{Event}
@@ -18,7 +18,7 @@ use Rattle.scan.proofs.Runs.{run_rest, events_rest, step_count}
 
 -- the count is the list's length
 pub events_are_counted : EventsCount
-unfolding run_scan run_events if◌then◌else◌
+unfolding run_scan run_events when◌then◌else◌
 events_are_counted page zero s = rw add-zero
 events_are_counted page (suc k) s =
     case _ (rests s.tokenizer.state) (λ e. rw (e, add-zero))
@@ -27,13 +27,13 @@ events_are_counted page (suc k) s =
 -- two allowances, one after the other, are their sum
 module _ (page : List ℕ) (k : ℕ) where
   pub run_add : (j : ℕ) (s : Scan) → run_scan page (j + k) s ≡ run_scan page k (run_scan page j s)
-  unfolding run_scan if◌then◌else◌
+  unfolding run_scan when◌then◌else◌
   run_add zero s = rw zero-add
   run_add (suc j) s =
       case _ (rests s.tokenizer.state) (λ e. rw (suc-add, e) (sym (run_rest page s k e))) (λ e. rw (suc-add, e) (run_add j (step_scan page s)))
 
   pub events_add : (j : ℕ) (s : Scan) → run_events page (j + k) s ≡ run_events page j s ++ run_events page k (run_scan page j s)
-  unfolding run_scan run_events if◌then◌else◌
+  unfolding run_scan run_events when◌then◌else◌
   events_add zero s = rw zero-add
   events_add (suc j) s =
       case _ (rests s.tokenizer.state) (λ e. rw (suc-add, e) (sym (events_rest page s k e)))

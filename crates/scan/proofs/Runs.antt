@@ -9,7 +9,7 @@ use lib.Dec.{eqb}
 use lib.ListN.{length}
 use borrow.Author.Tests.{lt-ltb, le-ltb}
 use Rattle.base.specs.Byte.{tab, line_feed}
-use Rattle.base.specs.If.{if◌then◌else◌}
+use Rattle.base.specs.If.{when◌then◌else◌}
 use Rattle.base.proofs.Choice.{case}
 use Rattle.base.specs.Page.{byte_at}
 use Rattle.base.specs.State.{rests}
@@ -34,22 +34,22 @@ use Rattle.scan.proofs.Steps.{none, fit_step}
 
 module _ (page : List ℕ) (s : Scan) where
   pub run_rest : (k : ℕ) → rests s.tokenizer.state ≡ true → run_scan page k s ≡ s
-  unfolding run_scan if◌then◌else◌
+  unfolding run_scan when◌then◌else◌
   run_rest zero e = refl
   run_rest (suc k) e = rw e
 
   pub events_rest : (k : ℕ) → rests s.tokenizer.state ≡ true → run_events page k s ≡ []
-  unfolding run_events if◌then◌else◌
+  unfolding run_events when◌then◌else◌
   events_rest zero e = refl
   events_rest (suc k) e = rw e
 
   pub run_more : (k : ℕ) → 0 < k → rests s.tokenizer.state ≡ false → run_scan page k s ≡ run_scan page (k - 1) (step_scan page s)
-  unfolding run_scan if◌then◌else◌
+  unfolding run_scan when◌then◌else◌
   run_more zero h e = absurd (omega arith)
   run_more (suc k) h e = rw (sub-one, e)
 
   pub events_more : (k : ℕ) → 0 < k → rests s.tokenizer.state ≡ false → run_events page k s ≡ step_events page s ++ run_events page (k - 1) (step_scan page s)
-  unfolding run_events if◌then◌else◌
+  unfolding run_events when◌then◌else◌
   events_more zero h e = absurd (omega arith)
   events_more (suc k) h e = rw (sub-one, e)
 
@@ -72,7 +72,7 @@ module _ (page : List ℕ) (s : Scan) where
 -- ---- what every step keeps, a run keeps
 
 pub run_keeps : (page : List ℕ) (P : Scan → Type 0) → ((s : Scan) → rests s.tokenizer.state ≡ false → P s → P (step_scan page s)) → (k : ℕ) (s : Scan) → P s → P (run_scan page k s)
-unfolding run_scan if◌then◌else◌
+unfolding run_scan when◌then◌else◌
 run_keeps page P f zero s p = p
 run_keeps page P f (suc k) s p = case _ (rests s.tokenizer.state) (λ e. rw e p) (λ e. rw e (run_keeps page P f k (step_scan page s) (f s e p)))
 
@@ -81,7 +81,7 @@ run_keeps page P f (suc k) s p = case _ (rests s.tokenizer.state) (λ e. rw e p)
 -- the byte that is eaten is no line feed and no tab, so that it is one column
 pub one_column_lem : (page : List ℕ) (s : Scan) (b : ℕ) (m : Move) (effect : Effect) → b ≡ byte_at page s.tokenizer.at → s.tokenizer.at < s.tokenizer.job.length → eqb b line_feed ≡ false → eqb b tab ≡ false → m ≡ eat_with s.tokenizer.state Nothing effect
     → ((next : Line) (t : InTab) → lines_after page effect next t s.lines ≡ lines_of next t s.lines.kept s.lines.fault) → passed_lines s.lines 1 ≡ lines_step page s m
-unfolding counted_on if◌then◌else◌
+unfolding counted_on when◌then◌else◌
 one_column_lem page s b m effect e l f g d h = rw (d, h, lt-ltb s.tokenizer.at s.tokenizer.job.length l, ← e, f, g)
 
 pub glide : (page words : List ℕ) (s : Scan) (b : ℕ) (r : Bool) (m : Move) → b ≡ byte_at page s.tokenizer.at → Glides s.tokenizer.state s.tokenizer.regs.quote b r → r ≡ true

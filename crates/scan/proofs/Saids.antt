@@ -3,7 +3,7 @@ use Prim.Native.Nat.{ℕ, ◌+◌}
 use mathlib.Core.Path.{◌≡◌, refl, sym, ap, ◌∙◌}
 use mathlib.Core.List.{List, [], ◌∷◌}
 use lib.ListN.{get_or}
-use Rattle.base.specs.If.{if◌then◌else◌}
+use Rattle.base.specs.If.{when◌then◌else◌}
 use Rattle.base.specs.Table.{find}
 use Rattle.page.specs.declared.line.Spot.{Spot}
 use Rattle.page.specs.Line.{spot}
@@ -59,7 +59,7 @@ pub answer_said : Said → Answer
 answer_said a = find a.number (table (λ k. get_or a.values k 0)) BadCall
 
 pub read_back : (a : Answer) → answer_said (said_by a) ≡ a
-unfolding answer_said find if◌then◌else◌
+unfolding answer_said find when◌then◌else◌
 read_back (Done end t) = refl
 read_back (Nok t) = refl
 read_back TooLong = refl

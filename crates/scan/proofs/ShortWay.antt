@@ -7,7 +7,7 @@ use mathlib.Core.List.{List}
 use lib.Dec.{eqb}
 use borrow.Author.Tests.{eqb-true, eqb-false, ne_eqb}
 use Rattle.base.specs.Byte.{tab, line_feed, space, left_brace, right_brace, end_of_page}
-use Rattle.base.specs.If.{if◌then◌else◌, among}
+use Rattle.base.specs.If.{when◌then◌else◌, among}
 use Rattle.base.proofs.Choice.{case, both, and_no, and_no', or_no, or_cases, or_left, or_right, not_yes}
 use Rattle.base.specs.Range.{within}
 use Rattle.base.proofs.Ranges.{within_is, below, above}
@@ -64,23 +64,23 @@ module _ (b : ℕ) (e : is_id_cont b ≡ true) where
 
   module _ (page : List ℕ) (t : Tokenizer) where
     primary : t.state ≡ 58 → decision page t b ≡ eat 58 Nothing
-    unfolding decision state_decision tag_decision attribute_decision find if◌then◌else◌ is_id_cont is_id_start within among
+    unfolding decision state_decision tag_decision attribute_decision find when◌then◌else◌ is_id_cont is_id_start within among
     primary h = rw h (simp (ascii 58, no_white, no_end, other 46 refl, other 58 refl, e))
 
     member : t.state ≡ 59 → decision page t b ≡ eat 59 Nothing
-    unfolding decision state_decision tag_decision attribute_decision find if◌then◌else◌ is_id_cont is_id_start within among
+    unfolding decision state_decision tag_decision attribute_decision find when◌then◌else◌ is_id_cont is_id_start within among
     member h = rw h (simp (ascii 59, no_white, no_end, other 46 refl, e))
 
     local : t.state ≡ 60 → decision page t b ≡ eat 60 Nothing
-    unfolding decision state_decision tag_decision attribute_decision find if◌then◌else◌ is_id_cont is_id_start within among
+    unfolding decision state_decision tag_decision attribute_decision find when◌then◌else◌ is_id_cont is_id_start within among
     local h = rw h (simp (ascii 60, no_white, no_end, e))
 
     attribute_primary : t.state ≡ 61 → decision page t b ≡ eat 61 Nothing
-    unfolding decision state_decision tag_decision attribute_decision find if◌then◌else◌ is_id_cont is_id_start within among
+    unfolding decision state_decision tag_decision attribute_decision find when◌then◌else◌ is_id_cont is_id_start within among
     attribute_primary h = rw h (simp (ascii 61, no_white, no_end, other 58 refl, other 61 refl, e))
 
     attribute_local : t.state ≡ 62 → decision page t b ≡ eat 62 Nothing
-    unfolding decision state_decision tag_decision attribute_decision find if◌then◌else◌ is_id_cont is_id_start within among
+    unfolding decision state_decision tag_decision attribute_decision find when◌then◌else◌ is_id_cont is_id_start within among
     attribute_local h = rw h (simp (ascii 62, no_white, no_end, other 61 refl, e))
 
     pub names : inside_a_name t.state ≡ true → decision page t b ≡ eat t.state Nothing
@@ -99,7 +99,7 @@ module _ (b : ℕ) (e : is_id_cont b ≡ true) where
 
 module _ (page : List ℕ) (t : Tokenizer) (b : ℕ) where
   pub data_plain : t.state ≡ 34 → plain_data b ≡ true → decision page t b ≡ eat 34 Nothing
-  unfolding decision state_decision expression_decision find if◌then◌else◌ within among
+  unfolding decision state_decision expression_decision find when◌then◌else◌ within among
   data_plain h e =
       let n = not_yes _ (both (not (eqb b tab)) _ e).1 in
       let f = or_right (eqb b line_feed) _ n in
@@ -108,30 +108,30 @@ module _ (page : List ℕ) (t : Tokenizer) (b : ℕ) where
       rw h (simp (and_no' (not_ascii b) (takes_ascii 34) refl, or_left (eqb b end_of_page) _ k, or_left (eqb b line_feed) _ n, or_left (eqb b left_brace) _ f, or_left (eqb b right_brace) _ g))
 
   pub quoted : t.state ≡ 39 → plain_value b t.regs.quote ≡ true → decision page t b ≡ eat 39 Nothing
-  unfolding decision state_decision tag_decision attribute_decision find if◌then◌else◌ within
+  unfolding decision state_decision tag_decision attribute_decision find when◌then◌else◌ within
   quoted h e = rw h (simp (and_no' (not_ascii b) (takes_ascii 39) refl, not_yes (quoted_ends b t.regs.quote) (both (not (eqb b tab)) _ e).1))
 
   pub lines : t.state ≡ 70 → plain_line b ≡ true → decision page t b ≡ eat 70 Nothing
-  unfolding decision state_decision esm_decision find if◌then◌else◌ within
+  unfolding decision state_decision esm_decision find when◌then◌else◌ within
   lines h e = rw h (simp (and_no' (not_ascii b) (takes_ascii 70) refl, not_yes (line_ends b) (both (not (eqb b tab)) _ e).1))
 
   pub spaces : t.state ≡ 64 → plain_space b ≡ true → decision page t b ≡ eat 64 Nothing
-  unfolding decision state_decision tag_decision attribute_decision find if◌then◌else◌ within is_whitespace
+  unfolding decision state_decision tag_decision attribute_decision find when◌then◌else◌ within is_whitespace
   spaces h e = rw (h, eqb-true b space e)
 
 -- ---- braces inside an expression
 
 module _ (page : List ℕ) (t : Tokenizer) (inside : t.state ≡ 34) where
   pub opens_unasked : t.job.asks ≡ true → decision page t left_brace ≡ eat 34 Nothing
-  unfolding decision state_decision expression_decision find if◌then◌else◌ within
+  unfolding decision state_decision expression_decision find when◌then◌else◌ within
   opens_unasked a = rw (inside, a)
 
   pub opens : t.job.asks ≡ false → decision page t left_brace ≡ eat_with 34 Nothing Deeper
-  unfolding decision state_decision expression_decision find if◌then◌else◌ within
+  unfolding decision state_decision expression_decision find when◌then◌else◌ within
   opens a = rw (inside, a)
 
   pub shuts : eqb t.regs.depth 0 ≡ false → decision page t right_brace ≡ eat_with 34 Nothing Shallower
-  unfolding decision state_decision expression_decision find if◌then◌else◌ within
+  unfolding decision state_decision expression_decision find when◌then◌else◌ within
   shuts d = rw (inside, d)
 
 -- ---- no line feed is passed

@@ -7,7 +7,7 @@ use mathlib.Core.List.{List, []}
 use lib.ListN.{length}
 use lib.Dec.{ltb, eqb}
 use borrow.Author.Tests.{ltb-true, ltb-false, le-ltb}
-use Rattle.base.specs.If.{if◌then◌else◌}
+use Rattle.base.specs.If.{when◌then◌else◌}
 use Rattle.base.proofs.Choice.{if_no, if_is}
 use Rattle.base.specs.Byte.{tab, line_feed}
 use Rattle.base.specs.Page.{page_limit, byte_at}
@@ -71,7 +71,7 @@ few_count s n w k f h l = record { short = omega (arith, f.long, f.short); start
 -- ---- what a step keeps
 
 next_within : (at n : ℕ) (eat : Bool) → at ≤ n → next_place at eat n ≤ n
-unfolding if◌then◌else◌
+unfolding when◌then◌else◌
 next_within at n true h = if_is ℕ (λ (k : ℕ). k ≤ n) (ltb at n) (at + 1) at (λ e. omega (arith, ltb-true at n e)) (λ e. h)
 next_within at n false h = h
 

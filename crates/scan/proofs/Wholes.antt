@@ -4,7 +4,7 @@ use native.Mathlib.Omega.{arith}
 use mathlib.Core.Path.{◌≡◌, sym, ap, ◌∙◌}
 use mathlib.Core.List.{List}
 use lib.ListN.{length, take, drop}
-use Rattle.base.specs.If.{if◌then◌else◌}
+use Rattle.base.specs.If.{when◌then◌else◌}
 use Rattle.page.specs.Page.{Admitted, page_check}
 use Rattle.page.specs.declared.Checked.{Checked}
 use Rattle.scan.specs.declared.Scan.{Scan}
@@ -19,7 +19,7 @@ use Rattle.scan.proofs.Singles.{single_ran, single_refused}
 module _ (bytes : List ℕ) (at n start construct kind flags : ℕ) (words : List ℕ) where
   -- what is begun of a page that is so checked
   abbrev begun_if_lem : Checked → Begun
-  begun_if_lem x = if numbers_listed construct kind flags then begun_if x (job_of construct kind flags n start (length words)) else not_started refused
+  begun_if_lem x = when numbers_listed construct kind flags then begun_if x (job_of construct kind flags n start (length words)) else not_started refused
 
   abbrev whole : Left
   whole = whole_of bytes at n start construct kind flags words

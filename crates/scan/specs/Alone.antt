@@ -1,7 +1,7 @@
 -- A scan run by itself, with the verdicts that it is given in order: demand 2's definition, and what demand 3 compares a worker's page
 -- with.
 use Rattle.std.specs.Prelude.{ℕ, List, [], ◌∷◌, ◌++◌, eqb}
-use Rattle.base.specs.If.{if◌then◌else◌}
+use Rattle.base.specs.If.{when◌then◌else◌}
 use Rattle.base.specs.State.{asking}
 use Rattle.base.specs.declared.Verdict.{Verdict}
 use Rattle.events.specs.declared.Event.{Event}
@@ -11,7 +11,7 @@ use Rattle.scan.specs.Call.{given_scan}
 
 -- a scan that asks hears the verdict; any other is left as it is
 abbrev pub told_scan : Scan → Verdict → Scan
-told_scan s v = if eqb s.tokenizer.state asking then given_scan s v else s
+told_scan s v = when eqb s.tokenizer.state asking then given_scan s v else s
 
 -- at most k steps up to each verdict and after the last
 unfoldable pub run_alone : List ℕ → ℕ → List Verdict → Scan → Scan

@@ -4,7 +4,7 @@
 -- its cases, and the promises use that definition." It is `said_by`; what a call answers is said in numbers and values, and the promises
 -- compare the two.
 use Rattle.std.specs.Prelude.{ℕ, List, [], ◌∷◌, leb}
-use Rattle.base.specs.If.{if◌then◌else◌}
+use Rattle.base.specs.If.{when◌then◌else◌}
 use Rattle.base.specs.Table.{find}
 use Rattle.base.specs.State as state
 use Rattle.base.specs.State.{first_running}
@@ -118,5 +118,5 @@ refusal s = find s.tokenizer.state (page_answers s) (verdict_refusal s)
 -- the answer of a scan as it stands: one that neither asks nor has ended is paused
 unfoldable pub answer_of : Scan → Said
 answer_of s =
-    if leb first_running s.tokenizer.state then said number.paused (placed (here s) (made (tally_of s)))
+    when leb first_running s.tokenizer.state then said number.paused (placed (here s) (made (tally_of s)))
     else find s.tokenizer.state (end_answers s) (refusal s)

@@ -1,6 +1,6 @@
 -- docs/SCOPE.md, 'Bench cases': all of them, as one computed table under one claim. Each row states what the document states of it.
 use Rattle.std.specs.Prelude.{ℕ, ◌≡◌, refl, Bool, true, ◌&&◌, List, [], ◌∷◌, length, get_or, eqb}
-use Rattle.base.specs.If.{if◌then◌else◌, among}
+use Rattle.base.specs.If.{when◌then◌else◌, among}
 use Rattle.base.specs.Range.{within}
 use Rattle.base.specs.Table.{find}
 use Rattle.base.specs.Page.{byte_at, after_line_feed}
@@ -141,5 +141,5 @@ unfolding
     given_scan
     line_of
     column_of
-    if◌then◌else◌
+    when◌then◌else◌
 bench_cases = refl

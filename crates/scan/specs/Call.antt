@@ -4,7 +4,7 @@
 -- given for: a number not listed in docs/, a state outside the ranges, a verdict nobody awaits or whose number is out of range, an
 -- allowance of 0, a single scan resumed when finished, without its verdict, or with a page or event buffer of another length.
 use Rattle.std.specs.Prelude.{ℕ, ◌+◌, ◌-◌, ◌*◌, ◌%◌, Bool, false, ◌&&◌, List, [], length, leb, ltb, eqb}
-use Rattle.base.specs.If.{if◌then◌else◌}
+use Rattle.base.specs.If.{when◌then◌else◌}
 use Rattle.base.specs.State.{nok, asking, first_running, mdx_expression_start, mdx_expression_verdict, mdx_jsx_start, mdx_esm_start, mdx_esm_verdict}
 use Rattle.base.specs.Number as number
 use Rattle.base.specs.declared.Verdict.{Verdict}
@@ -36,7 +36,7 @@ scan_in_range s =
 
 -- the answer of a scan that is handed over
 unfoldable pub asked_answer : Scan → Said
-asked_answer s = if scan_in_range s then answer_of s else refused
+asked_answer s = when scan_in_range s then answer_of s else refused
 
 -- what a call leaves: the scan, what it answered, and the lent words
 pub record Left : Type 0 where
@@ -64,7 +64,7 @@ runnable s n w allowance =
 
 unfoldable pub run_of : List ℕ → ℕ → Scan → List ℕ → Left
 run_of page allowance s words =
-    if runnable s (length page) (length words) allowance then left (run_scan page allowance s) (answer_of (run_scan page allowance s)) (run_words page allowance s words)
+    when runnable s (length page) (length words) allowance then left (run_scan page allowance s) (answer_of (run_scan page allowance s)) (run_words page allowance s words)
     else left s refused words
 
 -- ---- a verdict
@@ -75,7 +75,7 @@ givable s v = eqb s.tokenizer.state asking && (verdict_in_range v && scan_in_ran
 
 -- the verdict is kept: the next step applies it
 abbrev pub verdict_state : ℕ → ℕ
-verdict_state construct = if eqb construct esm then mdx_esm_verdict else mdx_expression_verdict
+verdict_state construct = when eqb construct esm then mdx_esm_verdict else mdx_expression_verdict
 
 unfoldable pub given_scan : Scan → Verdict → Scan
 given_scan s v =
@@ -89,7 +89,7 @@ given_scan s v =
 
 -- it is lent no words
 unfoldable pub give_of : Scan → Verdict → Left
-give_of s v = if givable s v then left (given_scan s v) (said number.kept []) [] else left s refused []
+give_of s v = when givable s v then left (given_scan s v) (said number.kept []) [] else left s refused []
 
 -- ---- a new scan
 
@@ -111,7 +111,7 @@ abbrev pub all_flags : ℕ
 all_flags = 3
 
 abbrev pub first_state : ℕ → ℕ
-first_state construct = if eqb construct esm then mdx_esm_start else if eqb construct tag then mdx_jsx_start else mdx_expression_start
+first_state construct = when eqb construct esm then mdx_esm_start else when eqb construct tag then mdx_jsx_start else mdx_expression_start
 
 -- a scan that has made no step, whose start is in a line
 unfoldable pub fresh_in : Line → Job → Scan
@@ -165,7 +165,7 @@ begun_if (checked.BadText p) j = not_started (said number.bad_text (placed p [])
 -- a page of n bytes at a place of the lent bytes, with an event buffer of so many words
 unfoldable pub begin_of : List ℕ → ℕ → ℕ → ℕ → ℕ → ℕ → ℕ → ℕ → Begun
 begin_of bytes at n start construct kind flags words =
-    if numbers_listed construct kind flags then begun_if (page_check bytes at n start) (job_of construct kind flags n start words)
+    when numbers_listed construct kind flags then begun_if (page_check bytes at n start) (job_of construct kind flags n start words)
     else not_started refused
 
 -- ---- a single scan in one call
@@ -178,7 +178,7 @@ ran_from (not_started answer) page allowance words = left no_scan answer words
 -- "A single scan or resume names a step allowance": 12 for one of 0 comes before 2, 3 and 4
 unfoldable pub single_of : List ℕ → ℕ → ℕ → ℕ → ℕ → ℕ → ℕ → ℕ → List ℕ → Left
 single_of bytes at n start construct kind flags allowance words =
-    if ltb 0 allowance then ran_from (begin_of bytes at n start construct kind flags (length words)) (page_of bytes at n) allowance words
+    when ltb 0 allowance then ran_from (begin_of bytes at n start construct kind flags (length words)) (page_of bytes at n) allowance words
     else left no_scan refused words
 
 -- a single scan with steps enough: 8(n+1), n counting from the start to the page's end, so that it never pauses

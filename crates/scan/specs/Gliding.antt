@@ -1,7 +1,7 @@
 -- What the short way asks and gives. No promise to a user of the library cites these.
 use Rattle.std.specs.Prelude.{ℕ, zero, suc, ◌+◌, ◌-◌, ◌≤◌, ◌<◌, ◌≡◌, Bool, true, false, not, ◌&&◌, ◌||◌, List, [], ◌∷◌, eqb, ltb, length}
 use Rattle.base.specs.Byte.{tab, line_feed, space, left_brace, right_brace, end_of_page}
-use Rattle.base.specs.If.{if◌then◌else◌, among}
+use Rattle.base.specs.If.{when◌then◌else◌, among}
 use Rattle.base.specs.Page.{byte_at}
 use Rattle.base.specs.Range.{within}
 use Rattle.base.specs.State.{mdx_expression_inside, mdx_jsx_attribute_value_quoted, mdx_jsx_es_whitespace_inside, mdx_jsx_primary_name, mdx_jsx_attribute_local_name, mdx_esm_inside}
@@ -65,7 +65,7 @@ pub record Glided (page : List ℕ) (name quote at left k : ℕ) : Type 0 where
 
 -- the furthest place that so many steps can reach
 abbrev pub furthest_place : ℕ → ℕ → ℕ → ℕ
-furthest_place end at left = if ltb left (end - at) then at + left else end
+furthest_place end at left = when ltb left (end - at) then at + left else end
 
 -- the count of steps after k more
 unfoldable pub counted_on : ℕ → ℕ → ℕ → ℕ
@@ -93,7 +93,7 @@ nests name depth b = eqb name mdx_expression_inside && (eqb b left_brace || eqb 
 
 -- how many are open past it
 abbrev pub depth_past : ℕ → Bool → ℕ → ℕ
-depth_past depth asks b = if eqb b left_brace then (if asks then depth else one_more depth most_braces) else depth - 1
+depth_past depth asks b = when eqb b left_brace then (when asks then depth else one_more depth most_braces) else depth - 1
 
 -- a scan after the step over it
 abbrev pub nested_scan : Scan → ℕ → Scan

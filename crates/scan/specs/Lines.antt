@@ -4,7 +4,7 @@
 -- `lines_are_the_pages`; what a run does is said over the registers, so that it holds of made-up scans too.
 use Rattle.std.specs.Prelude.{ℕ, ◌+◌, ◌*◌, Bool, ◌&&◌, List, leb, ltb, eqb, length}
 use Rattle.base.specs.Byte.{line_feed}
-use Rattle.base.specs.If.{if◌then◌else◌}
+use Rattle.base.specs.If.{when◌then◌else◌}
 use Rattle.base.specs.Page.{page_limit}
 use Rattle.base.specs.Tab.{columns_of}
 use Rattle.base.specs.declared.InTab.{InTab}
@@ -29,17 +29,17 @@ highest_column = 4 * highest + 1
 
 -- Lines and columns are counted up to the highest, which no page gets beyond.
 abbrev pub column_past : ℕ → ℕ → ℕ
-column_past column b = if ltb column highest_column then column_behind column b else column
+column_past column b = when ltb column highest_column then column_behind column b else column
 
 -- the line and the column past the byte b
 abbrev pub line_past : Line → ℕ → Line
 line_past line b =
-    if eqb b line_feed then record { number = one_more line.number highest; column = 1 }
+    when eqb b line_feed then record { number = one_more line.number highest; column = 1 }
     else record { number = line.number; column = column_past line.column b }
 
 -- the column of a place so far inside a tab
 abbrev pub column_in : Line → InTab → ℕ
-column_in line tab = if ltb line.column highest_column then line.column + columns_of tab else line.column
+column_in line tab = when ltb line.column highest_column then line.column + columns_of tab else line.column
 
 -- a place, as an answer carries it, and as an event does
 abbrev pub spot_in : Line → InTab → ℕ → Spot
@@ -57,11 +57,11 @@ first_lines line = lines_of line Outside first_line first_line
 
 -- a byte that is eaten is passed whole
 abbrev pub tab_next : Bool → InTab → InTab
-tab_next eat tab = if eat then Outside else tab
+tab_next eat tab = when eat then Outside else tab
 
 -- no verdict finds fault further on than one past the page's end
 abbrev pub within_end : List ℕ → ℕ → ℕ
-within_end page place = if ltb place (length page + 1) then place else length page + 1
+within_end page place = when ltb place (length page + 1) then place else length page + 1
 
 -- The lines after a step, when `next` and `tab` are those of the byte that comes next: where the place is saved its line is, where the saved
 -- place is taken up its line is, where a line prefix ends inside a tab its columns are passed, and where a verdict says error the line of

@@ -3,7 +3,7 @@
 -- docs/SCOPE.md, 'Steps': "One call of one state is a step; so is applying a verdict." 'The answer table': "A step writes all its events
 -- or none; full room wins over what that step would have answered."
 use Rattle.std.specs.Prelude.{ℕ, zero, suc, ◌+◌, ◌-◌, ◌*◌, Bool, ◌&&◌, List, [], ◌++◌, ltb}
-use Rattle.base.specs.If.{if◌then◌else◌}
+use Rattle.base.specs.If.{when◌then◌else◌}
 use Rattle.base.specs.Page.{byte_at}
 use Rattle.base.specs.State.{full, rests}
 use Rattle.base.specs.Decide.{retry, list_of, count_of}
@@ -40,7 +40,7 @@ lacks s m = ltb (room_in s.tokenizer.job.words - s.used) (count_of m.marks)
 
 -- what is carried out: the decision, or the end of the scan for want of room
 abbrev pub carried_out : Scan → Move → Move
-carried_out s m = if lacks s m then retry full Nothing else m
+carried_out s m = when lacks s m then retry full Nothing else m
 
 -- a byte is eaten, and there is one
 abbrev pub passes : Scan → Move → Bool
@@ -48,7 +48,7 @@ passes s m = m.eat && ltb s.tokenizer.at s.tokenizer.job.length
 
 -- the line of the byte that comes next, and the lines after a decision
 abbrev pub line_next : List ℕ → Scan → Move → Line
-line_next page s m = if passes s m then line_past s.lines.line (byte_at page s.tokenizer.at) else s.lines.line
+line_next page s m = when passes s m then line_past s.lines.line (byte_at page s.tokenizer.at) else s.lines.line
 
 abbrev pub lines_step : List ℕ → Scan → Move → Lines
 lines_step page s m = lines_after page m.effect (line_next page s m) (tab_next m.eat s.lines.tab) s.lines
@@ -79,14 +79,14 @@ unfoldable pub run_scan : List ℕ → ℕ → Scan → Scan
 run_scan page zero s = s
 run_scan page (suc k) s =
     let r = run_scan page k (step_scan page s) in
-    if rests s.tokenizer.state then s else r
+    when rests s.tokenizer.state then s else r
 
 -- their events, in order
 unfoldable pub run_events : List ℕ → ℕ → Scan → List Event
 run_events page zero s = []
 run_events page (suc k) s =
     let r = step_events page s ++ run_events page k (step_scan page s) in
-    if rests s.tokenizer.state then [] else r
+    when rests s.tokenizer.state then [] else r
 
 -- the lent words after a run: its events behind those that were there, and all else as it was
 abbrev pub run_words : List ℕ → ℕ → Scan → List ℕ → List ℕ

@@ -1,7 +1,7 @@
 -- What is promised of the events of every scan, for an auditor to read. docs/SCOPE.md, 'The answer table': "Events of earlier steps stay;
 -- everything beyond the count is as lent."
 use Rattle.std.specs.Prelude.{ℕ, ◌+◌, ◌*◌, ◌≤◌, ◌≡◌, List, [], ◌∷◌, ◌++◌, length, drop}
-use Rattle.base.specs.If.{if◌then◌else◌}
+use Rattle.base.specs.If.{when◌then◌else◌}
 use Rattle.base.specs.declared.Verdict.{Verdict}
 use Rattle.events.specs.declared.Event.{Event}
 use Rattle.events.specs.Words.{width, encode, events_in}
@@ -40,7 +40,7 @@ pub record Holds (lent : List ℕ) (s : Scan) (words : List ℕ) (events : List 
 
 -- the events of a call: none, where it is refused
 abbrev pub call_events : Call → Scan → List ℕ → List Event
-call_events (run page k) s words = if runnable s (length page) (length words) k then run_events page k s else []
+call_events (run page k) s words = when runnable s (length page) (length words) k then run_events page k s else []
 call_events (give v) s words = []
 
 -- the events of calls, in order: those of the earlier ones stay in front

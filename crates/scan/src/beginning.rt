@@ -1,6 +1,6 @@
 // A new scan; and a single scan in one call.
 ghost use Rattle.std.specs.Prelude.{◌≡◌};
-ghost use Rattle.base.specs.If.{if◌then◌else◌};
+ghost use Rattle.base.specs.If.{when◌then◌else◌};
 ghost use Rattle.page.specs.Page.{page_check};
 ghost use Rattle.tokenizer.specs.Registers.{no_regs};
 ghost use Rattle.scan.specs.Lines.{first_lines};
@@ -86,7 +86,7 @@ fn begin_checked(
     flags: u8,
     words: usize,
 ) -> Began
-    ensures { begun_by result ≡ (if numbers_listed construct kind flags then begun_if checked (job_of construct kind flags length start words) else not_started refused) }
+    ensures { begun_by result ≡ (when numbers_listed construct kind flags then begun_if checked (job_of construct kind flags length start words) else not_started refused) }
 {
     if numbers_listed(construct, kind, flags) {
         return begin_if_good(

@@ -1,6 +1,6 @@
 // The lines and columns of a scan, which are counted on from byte to byte, and taken back with the look-ahead.
 ghost use Rattle.std.specs.Prelude.{◌≡◌, ◌+◌, ◌≤◌, length};
-ghost use Rattle.base.specs.If.{if◌then◌else◌};
+ghost use Rattle.base.specs.If.{when◌then◌else◌};
 ghost use Rattle.base.specs.Page.{page_limit};
 ghost use Rattle.tokenizer.specs.Moved.{one_more};
 ghost use Rattle.scan.specs.Inner.{Low};
@@ -64,7 +64,7 @@ pub(crate) fn line_past(line: Line, b: u16) -> Line
 
 // The line of the byte that comes next, if the byte b is passed or not.
 pub(crate) fn line_next(line: Line, passes: bool, b: u16) -> Line
-    ensures { result ≡ (if passes then line_past line b else line) }
+    ensures { result ≡ (when passes then line_past line b else line) }
 {
     if passes {
         return line_past(line, b);

@@ -4,7 +4,7 @@ use mathlib.Core.Path.{◌≡◌, refl}
 use mathlib.Core.Bool.{true, false}
 use native.Mathlib.Omega.{arith}
 use lib.Dec.{eqb}
-use Rattle.base.specs.If.{if◌then◌else◌}
+use Rattle.base.specs.If.{when◌then◌else◌}
 use Rattle.base.proofs.Choice.{case, or_no, or_right}
 use Rattle.base.specs.Range.{within}
 use Rattle.base.specs.Table.{find}
@@ -23,36 +23,36 @@ use Rattle.scan_theorems.proofs.TagSinks.{name_sinks, tag_end_rank}
 
 module _ (p : Prices) where
   primary_returns : returns p mdx_jsx_attribute_primary_name_after ≡ p.two + (p.none + (p.none + p.three))
-  unfolding returns find if◌then◌else◌
+  unfolding returns find when◌then◌else◌
   primary_returns = refl
 
   local_returns : returns p mdx_jsx_attribute_local_name_after ≡ run_ends p
-  unfolding returns find if◌then◌else◌
+  unfolding returns find when◌then◌else◌
   local_returns = refl
 
   before_returns : returns p mdx_jsx_attribute_before ≡ p.none + p.three
-  unfolding returns find if◌then◌else◌
+  unfolding returns find when◌then◌else◌
   before_returns = refl
 
 module _ (p : Prices) (at : ℕ) (r : Regs) (b : ℕ) where
   attribute_rank : rank p mdx_jsx_attribute_before b r ≡ p.none + p.three
-  unfolding rank returns is_return within find if◌then◌else◌
+  unfolding rank returns is_return within find when◌then◌else◌
   attribute_rank = refl
 
   expression_rank : (back : ℕ) → rank p mdx_expression_start b (changed (Return back) at at r) ≡ p.three
-  unfolding rank is_return within find if◌then◌else◌
+  unfolding rank is_return within find when◌then◌else◌
   expression_rank back = refl
 
   quoted_rank_lem : quoted_ends b r.quote ≡ false → rank p mdx_jsx_attribute_value_quoted b r ≡ p.none
-  unfolding rank is_return within find if◌then◌else◌
+  unfolding rank is_return within find when◌then◌else◌
   quoted_rank_lem e = rw e
 
   quoted_start_rank : rank p mdx_jsx_attribute_value_quoted_start b r ≡ p.none + p.four
-  unfolding rank returns is_return within find if◌then◌else◌
+  unfolding rank returns is_return within find when◌then◌else◌
   quoted_start_rank = refl
 
   line_rank : (back : ℕ) → eqb b line_feed ≡ true → rank p mdx_jsx_es_whitespace_start b (changed (Return back) at at r) ≡ p.two
-  unfolding rank is_return within find if◌then◌else◌
+  unfolding rank is_return within find when◌then◌else◌
   line_rank back e = rw e
 
   pub before_sinks : Sinks p at r b (p.none + p.three) (attribute_before b)
@@ -102,7 +102,7 @@ module _ (p : Prices) (at : ℕ) (r : Regs) (b : ℕ) where
       (λ f. pick (λ g. falls refl refl (omega (arith, p, line_rank mdx_jsx_attribute_value_quoted_start g))) (λ g. falls refl refl (omega (arith, p, quoted_rank_lem (or_no _ _ f (or_no _ _ g e)))))))
 
   pub quoted_sinks : Sinks p at r b (quoted_rank p b r.quote) (attribute_value_quoted b r.quote)
-  unfolding if◌then◌else◌
+  unfolding when◌then◌else◌
   quoted_sinks =
       case _ (quoted_ends b r.quote) (λ e. rw e (falls refl refl (omega (arith, quoted_start_rank))))
       (λ e. rw e (eats refl refl (or_right (eqb b line_feed) _ (or_right (eqb b r.quote) _ e)) refl (omega arith)))

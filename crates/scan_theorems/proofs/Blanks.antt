@@ -9,7 +9,7 @@ use lib.ListN.{length, drop, get_or, length-drop}
 use lib.Seq.{drop-cons}
 use lib.Dec.{ltb}
 use borrow.Author.Tests.{ltb-true, ltb-false}
-use Rattle.base.specs.If.{if◌then◌else◌}
+use Rattle.base.specs.If.{when◌then◌else◌}
 use Rattle.base.proofs.Choice.{if_is, case}
 use Rattle.base.specs.Page.{byte_at}
 use Rattle.char_class.specs.Class.{is_space_or_tab}
@@ -18,7 +18,7 @@ use Rattle.body_places.proofs.Place.{byte_in}
 -- at the head of a list
 unfoldable pub heading : List ℕ → ℕ
 heading [] = 0
-heading (x ∷ xs) = if is_space_or_tab x then heading xs + 1 else 0
+heading (x ∷ xs) = when is_space_or_tab x then heading xs + 1 else 0
 
 -- from a place of the page on
 unfoldable pub blanks : List ℕ → ℕ → ℕ
@@ -35,11 +35,11 @@ unfolding blanks
 blanks_fit page at = omega (arith, heading_fits (drop at page), length-drop at page)
 
 heading_more : (x : ℕ) (xs : List ℕ) → is_space_or_tab x ≡ true → heading (x ∷ xs) ≡ heading xs + 1
-unfolding heading if◌then◌else◌
+unfolding heading when◌then◌else◌
 heading_more x xs h = rw h
 
 heading_none : (x : ℕ) (xs : List ℕ) → is_space_or_tab x ≡ false → heading (x ∷ xs) ≡ 0
-unfolding heading if◌then◌else◌
+unfolding heading when◌then◌else◌
 heading_none x xs h = rw h
 
 -- the run from a place on is one longer than the run after it, or there is none

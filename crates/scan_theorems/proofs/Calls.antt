@@ -9,7 +9,7 @@ use lib.ListN.{length, drop, length-drop}
 use lib.Seq.{length-take-le}
 use lib.Dec.{leb, ltb, eqb}
 use borrow.Author.Tests.{leb-true, le-leb, ltb-true, ltb-false, eqb-true}
-use Rattle.base.specs.If.{if◌then◌else◌}
+use Rattle.base.specs.If.{when◌then◌else◌}
 use Rattle.base.proofs.Choice.{if_is, case, both, and_yes}
 use Rattle.base.specs.Page.{page_limit, byte_at}
 use Rattle.base.specs.Range.{within}
@@ -89,7 +89,7 @@ module _ (page : List ℕ) (s : Scan) (size : length page ≡ s.tokenizer.job.le
       (moved_in_range page s.tokenizer (byte_at page s.tokenizer.at) k.range r, omega (arith, k.used, ltb-false (room_in s.tokenizer.job.words - s.used) (count_of (choice page s).marks) e))
 
   cut_off : Fine (retry full Nothing)
-  unfolding moved if◌then◌else◌ listed is_answer within
+  unfolding moved when◌then◌else◌ listed is_answer within
   cut_off =
       let p = parts s.tokenizer k.range in
       (whole (moved s.tokenizer (retry full Nothing)) (record { at = p.at; job = p.job; state = refl; regs = p.regs; heard = p.heard }), omega (arith, k.used))
@@ -113,19 +113,19 @@ step_in_range page s size r h = told (step_scan page s) (step_known page s size 
 
 -- a run gives a state in range, or, refused, the one that it was handed
 pub run_gives_in_range : (page : List ℕ) (allowance : ℕ) (s : Scan) (words : List ℕ) → scan_in_range s ≡ true → scan_in_range (run_of page allowance s words).scan ≡ true
-unfolding run_of if◌then◌else◌
+unfolding run_of when◌then◌else◌
 run_gives_in_range page allowance s words h =
     case _ (runnable s (length page) (length words) allowance) (λ e. rw e (told (run_scan page allowance s) (run_known page allowance s (sym (fit_of s (length page) (length words) allowance e).long) (known s h)))) (λ e. rw e h)
 
 -- ---- a verdict
 
-verdict_listed_lem : (construct : ℕ) → listed construct (if eqb construct esm then 76 else 37) ≡ true
-unfolding listed is_answer runs_in within if◌then◌else◌
+verdict_listed_lem : (construct : ℕ) → listed construct (when eqb construct esm then 76 else 37) ≡ true
+unfolding listed is_answer runs_in within when◌then◌else◌
 verdict_listed_lem construct = case _ (eqb construct esm) (λ c. rw c) (λ c. rw c)
 
 -- the scan is in range that is given a verdict in range where it asks
 pub given_in_range : (s : Scan) (v : Verdict) → s.tokenizer.state ≡ asking → verdict_in_range v ≡ true → scan_in_range s ≡ true → scan_in_range (given_scan s v) ≡ true
-unfolding given_scan if◌then◌else◌
+unfolding given_scan when◌then◌else◌
 given_in_range s v e g h =
     let k = known s h in
     let p = parts s.tokenizer k.range in
@@ -137,7 +137,7 @@ given_in_range s v e g h =
     })
 
 pub give_gives_in_range : (s : Scan) (v : Verdict) → scan_in_range s ≡ true → scan_in_range (give_of s v).scan ≡ true
-unfolding give_of givable if◌then◌else◌
+unfolding give_of givable when◌then◌else◌
 give_gives_in_range s v h =
     case _ (givable s v)
     (λ e.
@@ -162,7 +162,7 @@ job_in_range_lem bytes at n start construct kind flags words l a =
 pub not_begun : (P : Said → Type 0) (bytes : List ℕ) (at n start construct kind flags words : ℕ)
     → (numbers_listed construct kind flags ≡ false → P refused) → P (said number.too_long []) → P (said number.bad_start []) → ((p : Spot) → P (said number.bad_text (placed p [])))
     → (a : Said) → begin_of bytes at n start construct kind flags words ≡ not_started a → P a
-unfolding begin_of if◌then◌else◌
+unfolding begin_of when◌then◌else◌
 not_begun P bytes at n start construct kind flags words bad long far text a e =
     case _ (numbers_listed construct kind flags)
     (λ l. by (page_check bytes at n start) (rw l at e))
@@ -188,7 +188,7 @@ new_gives_in_range bytes at n start construct kind flags words s e =
 -- ---- a single scan in one call
 
 none_in_range : scan_in_range no_scan ≡ true
-unfolding scan_in_range lines_in_range line_in_range in_range job_in_range construct_listed kind_listed listed is_answer runs_in is_return numbers_in_range places_in_range regs_in_range verdict_in_range within if◌then◌else◌
+unfolding scan_in_range lines_in_range line_in_range in_range job_in_range construct_listed kind_listed listed is_answer runs_in is_return numbers_in_range places_in_range regs_in_range verdict_in_range within when◌then◌else◌
 none_in_range = refl
 
 single_gives_in_range : (bytes : List ℕ) (at n start construct kind flags allowance : ℕ) (words : List ℕ) → scan_in_range (single_of bytes at n start construct kind flags allowance words).scan ≡ true

@@ -4,7 +4,7 @@ use mathlib.Core.Path.{◌≡◌, refl}
 use mathlib.Core.Bool.{true}
 use mathlib.Core.List.{List}
 use Rattle.base.proofs.Tables.{◌&◌, Each}
-use Rattle.base.specs.If.{if◌then◌else◌}
+use Rattle.base.specs.If.{when◌then◌else◌}
 use Rattle.base.specs.Range.{within}
 use Rattle.base.specs.Table.{find}
 use Rattle.base.specs.declared.Move.{Move}
@@ -25,7 +25,7 @@ module _ (p : Prices) (page : List ℕ) (t : Tokenizer) (b : ℕ) where
   here m = Sinks p t.at t.regs b (rank p t.state b t.regs) m
 
   attribute_sinks : Each here t.state (attribute_states t b)
-  unfolding rank returns is_return within find if◌then◌else◌
+  unfolding rank returns is_return within find when◌then◌else◌
   attribute_sinks =
       let at = t.at in
       let r = t.regs in
@@ -43,7 +43,7 @@ module _ (p : Prices) (page : List ℕ) (t : Tokenizer) (b : ℕ) where
       & tt)
 
   tag_sinks : is_return t.regs.back ≡ true → Each here t.state (tag_states t b)
-  unfolding rank returns is_return within find if◌then◌else◌
+  unfolding rank returns is_return within find when◌then◌else◌
   tag_sinks h =
       let at = t.at in
       let r = t.regs in
@@ -69,7 +69,7 @@ module _ (p : Prices) (page : List ℕ) (t : Tokenizer) (b : ℕ) where
       & tt)
 
   expression_sinks : is_return t.regs.back ≡ true → Each here t.state (expression_states page t b)
-  unfolding rank is_return within find if◌then◌else◌
+  unfolding rank is_return within find when◌then◌else◌
   expression_sinks h =
       let at = t.at in
       let r = t.regs in

@@ -9,7 +9,7 @@ use lib.Dec.{leb, ltb, eqb}
 use lib.ListN.{length}
 use borrow.Author.Tests.{lt-ltb, leb-true}
 use Rattle.base.proofs.Tables.{◌&◌, Each}
-use Rattle.base.specs.If.{if◌then◌else◌}
+use Rattle.base.specs.If.{when◌then◌else◌}
 use Rattle.base.proofs.Choice.{if_is, both}
 use Rattle.base.specs.Byte.{left_brace}
 use Rattle.base.specs.Page.{byte_at, page_limit}
@@ -89,7 +89,7 @@ module _ (at n : ℕ) (eat : Bool) (g : Regs) where
 data Flat (m : Move) : Type 0 where
   plain : flat m.effect ≡ true → Flat m
 
-either : (t : Bool) (x y : Move) → Flat x → Flat y → Flat (if t then x else y)
+either : (t : Bool) (x y : Move) → Flat x → Flat y → Flat (when t then x else y)
 either t x y p q = if_is Move Flat t x y (λ h. p) (λ h. q)
 
 ruleset flats = (either, plain, refl)
@@ -118,7 +118,7 @@ module _ (page : List ℕ) (t : Tokenizer) (size : length page ≡ t.job.length)
 
   -- the byte that opens a brace is passed
   deeper_paid : eqb b left_brace ≡ true → Paid (eat_with state.mdx_expression_inside Nothing Deeper)
-  unfolding moved if◌then◌else◌
+  unfolding moved when◌then◌else◌
   deeper_paid e =
       let h = place_in_lem page t.at (byte_there b left_brace e refl) in
       rw (lt-ltb t.at t.job.length (omega (arith, h, size))) (omega (arith, d, more_small t.regs.depth page_limit))
@@ -208,7 +208,7 @@ depth_alone page k =
     (λ s v h p. told_keeps (Paying page) s v (λ e. record { within = within_given page s v p.within e h; tag = p.tag; depth = p.depth }) p)
 
 pub no_depth_is_cut : DepthCounted
-unfolding fresh_in job_in_range if◌then◌else◌
+unfolding fresh_in job_in_range when◌then◌else◌
 no_depth_is_cut page j k vs h l vr c =
     let d = (depth_alone page k vs (fresh_scan page j) vr (record { within = within_fresh page j h l; tag = c; depth = omega arith })).depth in
     let short = leb-true j.length page_limit (both (leb j.length page_limit) _ h).0 in

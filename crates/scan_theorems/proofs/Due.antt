@@ -13,7 +13,7 @@ use mathlib.Core.List.{List, [], ◌∷◌}
 use lib.ListN.{length}
 use lib.Dec.{leb, eqb}
 use borrow.Author.Tests.{le-leb}
-use Rattle.base.specs.If.{if◌then◌else◌}
+use Rattle.base.specs.If.{when◌then◌else◌}
 use Rattle.base.proofs.Choice.{case}
 use Rattle.base.specs.Table.{find}
 use Rattle.base.specs.Page.{byte_at}
@@ -104,8 +104,8 @@ module _ (p : Prices) (page : List ℕ) where
 
   unfoldable pub due_of : ℕ → ℕ → ℕ → Regs → ℕ
   due_of construct name at r =
-      if leb name state.bad_call then 0
-      else if eqb construct esm then esm_due name at r.saved
+      when leb name state.bad_call then 0
+      else when eqb construct esm then esm_due name at r.saved
       else ahead at + rank p name (byte_at page at) r
 
   unfoldable pub due : Tokenizer → ℕ
@@ -113,7 +113,7 @@ module _ (p : Prices) (page : List ℕ) where
 
   -- the scan has ended
   pub due_over : (t : Tokenizer) → leb t.state state.bad_call ≡ true → due t ≡ 0
-  unfolding due due_of if◌then◌else◌
+  unfolding due due_of when◌then◌else◌
   due_over t h = rw h
 
   pub due_ended : (t : Tokenizer) → t.state ≤ state.bad_call → due t ≡ 0
@@ -121,12 +121,12 @@ module _ (p : Prices) (page : List ℕ) where
 
   -- in an expression or a tag
   pub due_on : (construct name at : ℕ) (r : Regs) → eqb construct esm ≡ false → leb name state.bad_call ≡ false → due_of construct name at r ≡ ahead at + rank p name (byte_at page at) r
-  unfolding due_of if◌then◌else◌
+  unfolding due_of when◌then◌else◌
   due_on construct name at r c h = rw (h, c)
 
   -- in an ESM block
   pub due_esm : (construct name at : ℕ) (r : Regs) → eqb construct esm ≡ true → leb name state.bad_call ≡ false → due_of construct name at r ≡ esm_due name at r.saved
-  unfolding due_of if◌then◌else◌
+  unfolding due_of when◌then◌else◌
   due_esm construct name at r c h = rw (h, c)
 
 -- the steps that are left to make

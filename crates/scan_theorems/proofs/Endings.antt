@@ -9,7 +9,7 @@ use lib.Dec.{ltb, eqb}
 use borrow.Author.Tests.{ne_eqb, eqb-true}
 use Rattle.base.proofs.Tables.{◌&◌, Each}
 use Rattle.base.specs.Byte.{line_feed, end_of_page}
-use Rattle.base.specs.If.{if◌then◌else◌}
+use Rattle.base.specs.If.{when◌then◌else◌}
 use Rattle.base.proofs.Choice.{if_is, and_no, or_no, or_cases}
 use Rattle.base.proofs.Ranges.{within_is}
 use Rattle.base.specs.Table.{find}
@@ -36,17 +36,17 @@ pub data Ending (e way : Bool) (m : Move) : Type 0 where
   ending : eqb m.next state.not_ascii ≡ false → eqb m.next state.eof ≡ e → eqb m.next state.unexpected ≡ not way → eqb m.next state.full ≡ false → loud m ≡ false → Ending e way m
 
 -- a test that leads on, and then the rest; the last test before there is no way on; a choice of two that end alike
-on : (t way : Bool) (x y : Move) → Ending false true x → Ending false way y → Ending false (t || way) (if t then x else y)
-unfolding if◌then◌else◌
+on : (t way : Bool) (x y : Move) → Ending false true x → Ending false way y → Ending false (t || way) (when t then x else y)
+unfolding when◌then◌else◌
 on true way x y p q = p
 on false way x y p q = q
 
-last : (t : Bool) (x y : Move) → Ending false true x → Ending false false y → Ending false t (if t then x else y)
-unfolding if◌then◌else◌
+last : (t : Bool) (x y : Move) → Ending false true x → Ending false false y → Ending false t (when t then x else y)
+unfolding when◌then◌else◌
 last true x y p q = p
 last false x y p q = q
 
-alike : (e way t : Bool) (x y : Move) → Ending e way x → Ending e way y → Ending e way (if t then x else y)
+alike : (e way t : Bool) (x y : Move) → Ending e way x → Ending e way y → Ending e way (when t then x else y)
 alike e way t x y p q = if_is Move (Ending e way) t x y (λ h. p) (λ h. q)
 
 ruleset endings = (on, last, alike, ending, refl)
@@ -66,8 +66,8 @@ returned m h =
 -- ---- expressions
 
 -- at the page's end it is 6, unless an unfinished verdict stands
-at_end_lem : (t u : Bool) (x y z : Move) → Ending true true x → Ending false true y → Ending false true z → Ending (t && u) true (if t then (if u then x else y) else z)
-unfolding if◌then◌else◌
+at_end_lem : (t u : Bool) (x y z : Move) → Ending true true x → Ending false true y → Ending false true z → Ending (t && u) true (when t then (when u then x else y) else z)
+unfolding when◌then◌else◌
 at_end_lem true true x y z p q r = p
 at_end_lem true false x y z p q r = q
 at_end_lem false u x y z p q r = r
@@ -90,8 +90,8 @@ esm_verdict_ends (Wrong n offset) b after place = search endings depth 12
 
 -- ---- tags
 
-first : (t : Bool) (x y : Move) → Ending true true x → Ending false true y → Ending t true (if t then x else y)
-unfolding if◌then◌else◌
+first : (t : Bool) (x y : Move) → Ending true true x → Ending false true y → Ending t true (when t then x else y)
+unfolding when◌then◌else◌
 first true x y p q = p
 first false x y p q = q
 
@@ -106,7 +106,7 @@ module _ (page : List ℕ) (t : Tokenizer) (b : ℕ) (h : is_return t.regs.back 
   Here m = Ending (end_met t.state b t.regs.last) (way_on t.state b) m
 
   expression_ends : Each Here t.state (expression_states page t b)
-  unfolding end_met way_on find if◌then◌else◌
+  unfolding end_met way_on find when◌then◌else◌
   expression_ends =
       ((λ k. rw k (search endings depth 12))
       & (λ k. rw k (before_ends b t.regs.depth t.job.asks t.regs.last _ t.regs.back h))
@@ -117,7 +117,7 @@ module _ (page : List ℕ) (t : Tokenizer) (b : ℕ) (h : is_return t.regs.back 
       & tt)
 
   tag_ends : Each Here t.state (tag_states t b)
-  unfolding end_met way_on find if◌then◌else◌
+  unfolding end_met way_on find when◌then◌else◌
   tag_ends =
       ((λ k. rw k (search endings depth 12))
       & (λ k. rw k (search endings depth 12))
@@ -141,7 +141,7 @@ module _ (page : List ℕ) (t : Tokenizer) (b : ℕ) (h : is_return t.regs.back 
       & tt)
 
   attribute_ends : Each Here t.state (attribute_states t b)
-  unfolding end_met way_on find if◌then◌else◌
+  unfolding end_met way_on find when◌then◌else◌
   attribute_ends =
       ((λ k. rw k (quoted_start_ends b t.regs.quote))
       & (λ k. rw k (search endings depth 12))
@@ -158,7 +158,7 @@ module _ (page : List ℕ) (t : Tokenizer) (b : ℕ) (h : is_return t.regs.back 
 
   -- in an ESM block there is always a way on
   esm_ends : Each Here t.state (esm_states page t b)
-  unfolding end_met way_on find if◌then◌else◌
+  unfolding end_met way_on find when◌then◌else◌
   esm_ends =
       ((λ k. rw k (search endings depth 12))
       & (λ k. rw k (search endings depth 12))

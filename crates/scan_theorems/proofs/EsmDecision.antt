@@ -6,7 +6,7 @@ use mathlib.Core.List.{List}
 use lib.ListN.{length}
 use lib.Dec.{eqb}
 use Rattle.base.proofs.Tables.{◌&◌, Each}
-use Rattle.base.specs.If.{if◌then◌else◌}
+use Rattle.base.specs.If.{when◌then◌else◌}
 use Rattle.base.specs.Table.{find}
 use Rattle.base.specs.Page.{byte_at, after_line_feed}
 use Rattle.base.specs.declared.Move.{Move}
@@ -26,7 +26,7 @@ module _ (p : Prices) (page : List ℕ) (t : Tokenizer) (c : eqb t.job.construct
   here m = EsmFalls p page t.job.construct t.job.length t.at t.regs (esm_due p page t.state t.at t.regs.saved) m
 
   rows : t.at ≤ length page → Ahead page t.state t.at t.regs.saved → Each here t.state (esm_states page t (byte_at page t.at))
-  unfolding esm_due find if◌then◌else◌
+  unfolding esm_due find when◌then◌else◌
   rows w a =
       let n = t.job.length in
       let k = t.job.construct in

@@ -8,7 +8,7 @@ use native.Mathlib.Omega.{arith}
 use lib.ListN.{length}
 use lib.Dec.{leb, eqb}
 use borrow.Author.Tests.{lt-ltb, leb-true}
-use Rattle.base.specs.If.{if◌then◌else◌}
+use Rattle.base.specs.If.{when◌then◌else◌}
 use Rattle.base.proofs.Choice.{if_is}
 use Rattle.base.specs.Table.{find}
 use Rattle.base.specs.State as state
@@ -38,44 +38,44 @@ pub record EsmFalls (p : Prices) (page : List ℕ) (construct n at : ℕ) (r : R
 -- what is due in each state, by its name
 module _ (p : Prices) (page : List ℕ) (at saved : ℕ) where
   pub word_due : esm_due p page state.mdx_esm_word at saved ≡ ahead p page at + p.none
-  unfolding esm_due find if◌then◌else◌
+  unfolding esm_due find when◌then◌else◌
   word_due = refl
 
   pub inside_due : esm_due p page state.mdx_esm_inside at saved ≡ ahead p page at + (p.one + (p.none + looking p page)) - again p page at
-  unfolding esm_due find if◌then◌else◌
+  unfolding esm_due find when◌then◌else◌
   inside_due = refl
 
   pub line_due : esm_due p page state.mdx_esm_line_start at saved ≡ ahead p page at + (p.none + looking p page) - again p page at
-  unfolding esm_due find if◌then◌else◌
+  unfolding esm_due find when◌then◌else◌
   line_due = refl
 
   pub before_due : esm_due p page state.mdx_esm_blank_line_before at saved ≡ ahead p page at + looking p page
-  unfolding esm_due find if◌then◌else◌
+  unfolding esm_due find when◌then◌else◌
   before_due = refl
 
   pub blank_due : esm_due p page state.mdx_esm_blank_line at saved ≡ ahead p page saved + looking p page - passing p page (at - saved)
-  unfolding esm_due find if◌then◌else◌
+  unfolding esm_due find when◌then◌else◌
   blank_due = refl
 
   pub end_due : esm_due p page state.mdx_esm_at_end at saved ≡ ahead p page at + (p.none + judging p page) - again p page (at + 1)
-  unfolding esm_due find if◌then◌else◌
+  unfolding esm_due find when◌then◌else◌
   end_due = refl
 
   pub asking_due : esm_due p page state.asking at saved ≡ ahead p page at + judging p page - again p page (at + 1)
-  unfolding esm_due find if◌then◌else◌
+  unfolding esm_due find when◌then◌else◌
   asking_due = refl
 
   pub goes_on_due : esm_due p page state.mdx_esm_continuation_start at saved ≡ ahead p page at + p.two - again p page (at + 1)
-  unfolding esm_due find if◌then◌else◌
+  unfolding esm_due find when◌then◌else◌
   goes_on_due = refl
 
 -- what falls by either choice falls
-pub pick : {p : Prices} {page : List ℕ} {construct n at : ℕ} {r : Regs} {k : ℕ} {t : Bool} {x y : Move} → (t ≡ true → EsmFalls p page construct n at r k x) → (t ≡ false → EsmFalls p page construct n at r k y) → EsmFalls p page construct n at r k (if t then x else y)
+pub pick : {p : Prices} {page : List ℕ} {construct n at : ℕ} {r : Regs} {k : ℕ} {t : Bool} {x y : Move} → (t ≡ true → EsmFalls p page construct n at r k x) → (t ≡ false → EsmFalls p page construct n at r k y) → EsmFalls p page construct n at r k (when t then x else y)
 pick {p} {page} {construct} {n} {at} {r} {k} {t} {x} {y} = if_is Move (EsmFalls p page construct n at r k) t x y
 
 -- the scan ends
 pub ends : {p : Prices} {page : List ℕ} {construct n at : ℕ} {r : Regs} {k : ℕ} {m : Move} → leb m.next state.bad_call ≡ true → price p m.marks ≤ k → EsmFalls p page construct n at r k m
-unfolding due_of if◌then◌else◌
+unfolding due_of when◌then◌else◌
 ends {m} h g =
     record {
       less = rw h (omega (arith, g));
@@ -84,7 +84,7 @@ ends {m} h g =
 
 -- a byte is eaten
 pub eats : {p : Prices} {page : List ℕ} {construct n at : ℕ} {r : Regs} {k next : ℕ} {marks : Marks} → eqb construct esm ≡ true → length page ≡ n → leb next state.bad_call ≡ false → at < length page → esm_due p page next (at + 1) r.saved + price p marks ≤ k → Ahead page next (at + 1) r.saved → EsmFalls p page construct n at r k (eat next marks)
-unfolding if◌then◌else◌
+unfolding when◌then◌else◌
 eats {p} {page} {construct} {n} {at} {r} {k} {next} c size h l g a =
     let q : next_place at true n ≡ at + 1 = rw (lt-ltb at n (omega arith)) in
     record {
@@ -94,7 +94,7 @@ eats {p} {page} {construct} {n} {at} {r} {k} {next} c size h l g a =
 
 -- no byte is eaten, and the next state stands at the place q with the saved place s
 pub goes : {p : Prices} {page : List ℕ} {construct n at : ℕ} {r : Regs} {k next : ℕ} {marks : Marks} {effect : Effect} (q s : ℕ) → eqb construct esm ≡ true → place_after effect at r.saved ≡ q → (changed effect at at r).saved ≡ s → leb next state.bad_call ≡ false → esm_due p page next q s + price p marks ≤ k → Ahead page next q s → EsmFalls p page construct n at r k (retry_with next marks effect)
-unfolding if◌then◌else◌
+unfolding when◌then◌else◌
 goes {p} {page} {construct} {at} {r} {next} {effect} q s c e f h g a =
     record {
       less = rw (e, due_esm p page construct next q (changed effect at at r) c h, f) g;

@@ -11,7 +11,7 @@ use lib.ListN.{length}
 use borrow.Author.Tests.{ltb-true, lt-ltb, le-ltb, ne_eqb}
 use Rattle.base.proofs.Tables.{◌&◌, found}
 use Rattle.base.specs.Byte.{end_of_page}
-use Rattle.base.specs.If.{if◌then◌else◌, among}
+use Rattle.base.specs.If.{when◌then◌else◌, among}
 use Rattle.base.proofs.Choice.{case, both, and_no, and_no', or_left, or_right}
 use Rattle.base.specs.Range.{within}
 use Rattle.base.proofs.Ranges.{within_is, is_within, all_hold}
@@ -56,7 +56,7 @@ ascii_states n l h = alike_is _ _ (all_hold (λ (x : ℕ). alike (takes_ascii x)
 
 -- outside a tag there is always a way on
 way_outside : (n b : ℕ) → 32 ≤ n → n ≤ 76 → tag_state n ≡ false → way_on n b ≡ true
-unfolding way_on find if◌then◌else◌
+unfolding way_on find when◌then◌else◌
 way_outside n b l h f =
     by_cases (dec_le n 37) (λ (s : n ≤ 37). all_hold (λ (x : ℕ). way_on x b) 6 32 n refl l (omega arith))
     (λ s. by_cases (dec_le n 67) (λ (u : n ≤ 67). clash (tag_state n) (within_yes n s u) f) (λ u. all_hold (λ (x : ℕ). way_on x b) 9 68 n refl (omega (arith, u)) (omega arith)))
@@ -103,7 +103,7 @@ module _ (page : List ℕ) (s : Scan) (l : 32 ≤ s.tokenizer.state) (h : s.toke
   )
 
   refused : refuses_not_ascii n b ≡ true → RowsOf page s
-  unfolding choice decision if◌then◌else◌
+  unfolding choice decision when◌then◌else◌
   refused r =
       let q = next_is (retry state.not_ascii Nothing) (rw r) in
       let none : lacks s (retry state.not_ascii Nothing) ≡ false = le-ltb (room_in s.tokenizer.job.words - s.used) 0 (omega arith) in
@@ -117,7 +117,7 @@ module _ (page : List ℕ) (s : Scan) (l : 32 ≤ s.tokenizer.state) (h : s.toke
       }
 
   decided : refuses_not_ascii n b ≡ false → Ending (end_met n b s.tokenizer.regs.last) (way_on n b) m → RowsOf page s
-  unfolding choice decision if◌then◌else◌
+  unfolding choice decision when◌then◌else◌
   decided r (ending e5 e6 e7 e10 q) =
       let x = next_is m (rw r) in
       let met = sym five_is ∙ r in

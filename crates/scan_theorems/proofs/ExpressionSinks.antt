@@ -5,7 +5,7 @@ use mathlib.Core.Bool.{Bool, true, false}
 use native.Mathlib.Omega.{arith}
 use lib.Dec.{ltb, eqb}
 use borrow.Author.Tests.{eqb-true, ne_eqb}
-use Rattle.base.specs.If.{if◌then◌else◌}
+use Rattle.base.specs.If.{when◌then◌else◌}
 use Rattle.base.proofs.Choice.{if_is, case, or_no, or_left, or_cases, both}
 use Rattle.base.specs.Range.{within}
 use Rattle.base.proofs.Ranges.{within_is}
@@ -36,32 +36,32 @@ returns_on name h =
 module _ (p : Prices) (at : ℕ) (r : Regs) (b : ℕ) where
   -- the ranks of the states that are gone to
   inside_rank_lem : stops b r.depth ≡ false → rank p mdx_expression_inside b r ≡ p.none
-  unfolding rank is_return within find if◌then◌else◌
+  unfolding rank is_return within find when◌then◌else◌
   inside_rank_lem e = rw e
 
   asking_rank : eqb b end_of_page ≡ false → rank p asking b r ≡ p.three
-  unfolding rank is_return within find if◌then◌else◌
+  unfolding rank is_return within find when◌then◌else◌
   asking_rank e = rw e
 
   before_rank : rank p mdx_expression_before b r ≡ p.none + p.three
-  unfolding rank is_return within find if◌then◌else◌
+  unfolding rank is_return within find when◌then◌else◌
   before_rank = refl
 
   prefix_rank_lem : rank p mdx_expression_prefix b (changed PrefixBegins at at r) ≤ p.none + run_ends p
-  unfolding rank is_return within find if◌then◌else◌
+  unfolding rank is_return within find when◌then◌else◌
   prefix_rank_lem = case _ (prefix_in_tab b r.prefix) (λ e. rw e (omega arith)) (λ e. rw e (omega arith))
 
   -- two columns are passed then, and no more are the prefix's
   in_tab_rank : (tab : InTab) → rank p mdx_expression_prefix b (changed (PrefixInTab tab) at at r) ≡ run_ends p
-  unfolding rank is_return within find if◌then◌else◌
+  unfolding rank is_return within find when◌then◌else◌
   in_tab_rank tab = refl
 
   ended_rank : rank p mdx_expression_before b (changed PrefixEnds at at r) ≡ p.none + p.three
-  unfolding rank is_return within find if◌then◌else◌
+  unfolding rank is_return within find when◌then◌else◌
   ended_rank = refl
 
   inside_end : (n : ℕ) → rank p mdx_expression_inside b (changed (Last n) at at r) ≤ run_ends p
-  unfolding rank is_return within find if◌then◌else◌
+  unfolding rank is_return within find when◌then◌else◌
   inside_end n = if_is ℕ (λ (k : ℕ). k ≤ run_ends p) (stops b r.depth) (run_ends p) p.none (λ e. omega arith) (λ e. omega (arith, p))
 
   pub start_sinks : (token : ℕ) → Sinks p at r b p.three (start b token)
@@ -75,7 +75,7 @@ module _ (p : Prices) (at : ℕ) (r : Regs) (b : ℕ) where
       (λ g. falls refl refl (omega (arith, p, inside_rank_lem (or_no _ _ e (or_no _ _ f g)))))))
 
   pub inside_sinks : (asks : Bool) → Sinks p at r b (inside_rank p b r.depth) (inside b r.depth asks)
-  unfolding if◌then◌else◌
+  unfolding when◌then◌else◌
   inside_sinks asks =
       case _ (stops b r.depth) (λ e. rw e (falls refl refl (omega (arith, before_rank))))
       (λ e. let n = or_left (eqb b end_of_page) _ e in
@@ -86,13 +86,13 @@ module _ (p : Prices) (at : ℕ) (r : Regs) (b : ℕ) where
   eol_sinks = pick (λ e. falls refl refl (omega (arith, prefix_rank_lem))) (λ e. falls refl refl (omega (arith, p, before_rank)))
 
   pub prefix_sinks : (size : ℕ) → Sinks p at r b (prefix_rank p b size) (prefix b size)
-  unfolding if◌then◌else◌
+  unfolding when◌then◌else◌
   prefix_sinks size =
       pick (λ e. eats refl refl (byte_there b space (both (ltb size prefix_size) (eqb b space) e).1 refl) refl (if_is ℕ (λ (k : ℕ). p.none ≤ k) (prefix_in_tab b size) _ _ (λ f. omega arith) (λ f. omega (arith, p))))
       (λ e. case _ (prefix_in_tab b size) (λ f. rw f (falls refl refl (omega (arith, in_tab_rank (taken size))))) (λ f. rw f (falls refl refl (omega (arith, ended_rank)))))
 
   pub verdict_sinks : (v : Verdict) (place token : ℕ) → is_return r.back ≡ true → Sinks p at r b (verdict_rank p b r.back) (verdict v place token r.back)
-  unfolding if◌then◌else◌
+  unfolding when◌then◌else◌
   verdict_sinks Fine place token h =
       case _ (eqb b end_of_page) (λ e. rw e (stuck refl (returns_on r.back h) (omega (arith, rank_return p r.back b r h)))) (λ e. rw e (eats refl refl e (returns_on r.back h) (omega arith)))
   verdict_sinks (Unfinished n) place token h = case _ (eqb b end_of_page) (λ e. rw e (stuck refl refl (omega (arith, inside_end n)))) (λ e. rw e (eats refl refl e refl (omega (arith, p))))

@@ -11,7 +11,7 @@ use lib.Dec.{leb, ltb, eqb}
 use lib.ListN.{get_or}
 use borrow.Author.Tests.{le-leb, ltb-true}
 use Rattle.base.proofs.Tables.{◌&◌, Each}
-use Rattle.base.specs.If.{if◌then◌else◌}
+use Rattle.base.specs.If.{when◌then◌else◌}
 use Rattle.base.proofs.Choice.{if_is, case, both, and_yes}
 use Rattle.base.specs.Byte.{tab}
 use Rattle.base.specs.Page.{byte_at}
@@ -113,7 +113,7 @@ fault_in at b eat (Refuse site note) = true
 pub data Faults (at b : ℕ) (m : Move) : Type 0 where
   faults : fault_in at b m.eat m.effect ≡ true → Faults at b m
 
-either : (at b : ℕ) (t : Bool) (x y : Move) → Faults at b x → Faults at b y → Faults at b (if t then x else y)
+either : (at b : ℕ) (t : Bool) (x y : Move) → Faults at b x → Faults at b y → Faults at b (when t then x else y)
 either at b t x y p q = if_is Move (Faults at b) t x y (λ h. p) (λ h. q)
 
 ruleset faultless = (either, faults, refl)

@@ -8,7 +8,7 @@ use native.Mathlib.Omega.{arith}
 use lib.ListN.{length}
 use lib.Dec.{leb, eqb}
 use borrow.Author.Tests.{leb-true}
-use Rattle.base.specs.If.{if◌then◌else◌}
+use Rattle.base.specs.If.{when◌then◌else◌}
 use Rattle.base.proofs.Choice.{case, both}
 use Rattle.base.specs.Range.{within}
 use Rattle.base.specs.Table.{find}
@@ -29,13 +29,13 @@ use Rattle.scan_theorems.proofs.Sound.{Sound}
 
 -- the state that a scan begins in
 abbrev pub begins : ℕ → ℕ
-begins construct = if eqb construct esm then mdx_esm_start else if eqb construct tag then mdx_jsx_start else mdx_expression_start
+begins construct = when eqb construct esm then mdx_esm_start else when eqb construct tag then mdx_jsx_start else mdx_expression_start
 
 abbrev pub fresh : Job → Tokenizer
 fresh j = record { job = j; state = begins j.construct; at = j.start; regs = no_regs; heard = Fine }
 
 begins_on : (construct : ℕ) → awaits (begins construct) ≡ false
-unfolding if◌then◌else◌
+unfolding when◌then◌else◌
 begins_on construct = case _ (eqb construct esm) (λ c. rw c) (λ c. case _ (eqb construct tag) (λ d. rw (c, d)) (λ d. rw (c, d)))
 
 -- as much as n bytes and the page's end can cost
@@ -44,7 +44,7 @@ unfolding ahead
 all_ahead p page at = omega arith
 
 due_begins : (p : Prices) (page : List ℕ) (j : Job) → due p page (fresh j) ≤ ahead p page j.start + p.most
-unfolding due due_of esm_due find if◌then◌else◌
+unfolding due due_of esm_due find when◌then◌else◌
 due_begins p page j =
     case _ (eqb j.construct esm) (λ c. rw c (omega (arith, p)))
     (λ c. due_most p page j.construct (begins j.construct) j.start no_regs c (begins_on j.construct))
@@ -63,11 +63,11 @@ unfolding events
 events_fresh page j s = due_fresh events page j s
 
 begins_listed : (construct : ℕ) → listed construct (begins construct) ≡ true
-unfolding listed is_answer runs_in within if◌then◌else◌
+unfolding listed is_answer runs_in within when◌then◌else◌
 begins_listed construct = case _ (eqb construct esm) (λ c. rw c) (λ c. case _ (eqb construct tag) (λ d. rw (c, d)) (λ d. rw (c, d)))
 
 begins_elsewhere : (construct : ℕ) → looks_elsewhere (begins construct) ≡ true
-unfolding if◌then◌else◌
+unfolding when◌then◌else◌
 begins_elsewhere construct = case _ (eqb construct esm) (λ c. rw c) (λ c. case _ (eqb construct tag) (λ d. rw (c, d)) (λ d. rw (c, d)))
 
 pub start_within : (j : Job) → job_in_range j ≡ true → j.start ≤ j.length

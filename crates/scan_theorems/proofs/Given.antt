@@ -4,7 +4,7 @@ use mathlib.Core.Path.{◌≡◌, refl}
 use mathlib.Core.Bool.{true}
 use mathlib.Core.List.{List}
 use lib.Dec.{eqb}
-use Rattle.base.specs.If.{if◌then◌else◌}
+use Rattle.base.specs.If.{when◌then◌else◌}
 use Rattle.base.proofs.Choice.{if_is, case}
 use Rattle.base.specs.Range.{within}
 use Rattle.base.specs.Table.{find}
@@ -21,14 +21,14 @@ use Rattle.scan_theorems.proofs.Sound.{Sound}
 
 -- the state that applies a verdict
 abbrev pub applies : ℕ → ℕ
-applies construct = if eqb construct esm then mdx_esm_verdict else mdx_expression_verdict
+applies construct = when eqb construct esm then mdx_esm_verdict else mdx_expression_verdict
 
 abbrev pub given : Tokenizer → Verdict → Tokenizer
 given t v = record { job = t.job; state = applies t.job.construct; at = t.at; regs = t.regs; heard = v }
 
 -- what is due where a verdict is applied is what is due where it is asked for
 applied : (p : Prices) (page : List ℕ) (t : Tokenizer) → due_of p page t.job.construct (applies t.job.construct) t.at t.regs ≡ due_of p page t.job.construct asking t.at t.regs
-unfolding due_of esm_due rank is_return within find if◌then◌else◌
+unfolding due_of esm_due rank is_return within find when◌then◌else◌
 applied p page t = case _ (eqb t.job.construct esm) (λ c. rw c) (λ c. rw c)
 
 pub due_given : (p : Prices) (page : List ℕ) (t : Tokenizer) (v : Verdict) → t.state ≡ asking → due p page (given t v) ≡ due p page t
@@ -36,7 +36,7 @@ unfolding due
 due_given p page t v e = rw e (applied p page t)
 
 applies_listed : (construct : ℕ) → listed construct (applies construct) ≡ true
-unfolding listed is_answer runs_in within if◌then◌else◌
+unfolding listed is_answer runs_in within when◌then◌else◌
 applies_listed construct = case _ (eqb construct esm) (λ c. rw c) (λ c. rw c)
 
 applies_elsewhere : (construct : ℕ) → looks_elsewhere (applies construct) ≡ true

@@ -10,7 +10,7 @@ use lib.ListN.{length}
 use borrow.Author.Tests.{eqb-true, lt-ltb, ltb-false, leb-true}
 use Rattle.base.proofs.Tables.{◌&◌, found}
 use Rattle.base.specs.Byte.{tab, line_feed}
-use Rattle.base.specs.If.{if◌then◌else◌, among}
+use Rattle.base.specs.If.{when◌then◌else◌, among}
 use Rattle.base.proofs.Choice.{if_yes, if_is, case, both, not_yes}
 use Rattle.base.specs.Page.{page_limit, byte_at}
 use Rattle.base.specs.Tab.{columns_of}
@@ -64,11 +64,11 @@ module _ (page : List ℕ) (short : length page ≤ page_limit) (at : ℕ) (insi
   column_low = omega (arith, column_within page at)
 
   past_fed : eqb (byte_at page at) line_feed ≡ true → line_past (line_at page at) (byte_at page at) ≡ passed_line (line_at page at) (byte_at page at)
-  unfolding if◌then◌else◌
+  unfolding when◌then◌else◌
   past_fed e = rw (e, lt-ltb (line_of page at) highest (omega (arith, line_within page at, place_in_lem page at (byte_there (byte_at page at) line_feed e refl))))
 
   past_on : eqb (byte_at page at) line_feed ≡ false → line_past (line_at page at) (byte_at page at) ≡ passed_line (line_at page at) (byte_at page at)
-  unfolding if◌then◌else◌
+  unfolding when◌then◌else◌
   past_on e = rw (e, lt-ltb (column_of page at) highest_column column_low)
 
   -- the line past the byte of a place of the page: no number is cut
@@ -94,8 +94,8 @@ module _ (page : List ℕ) (short : length page ≤ page_limit) (at n : ℕ) (si
   past_line : line_past line (byte_at page at) ≡ line_at page (at + 1)
   past_line = ap (λ (l : Line). line_past l (byte_at page at)) e ∙ past_is page short at (omega (arith, size))
 
-  next_is : (eat : Bool) → (if eat && ltb at n then line_past line (byte_at page at) else line) ≡ line_at page (next_place at eat n)
-  unfolding if◌then◌else◌
+  next_is : (eat : Bool) → (when eat && ltb at n then line_past line (byte_at page at) else line) ≡ line_at page (next_place at eat n)
+  unfolding when◌then◌else◌
   next_is eat = case _ (eat && ltb at n) (λ l. rw l past_line) (λ l. rw l e)
 
 -- a fault no further on than one past the page's end is where it is
@@ -211,12 +211,12 @@ module _ (page : List ℕ) (s : Scan) (r : rests s.tokenizer.state ≡ false) (h
 
   -- a byte that is eaten is passed whole, and the scan stays where it is not
   next_tabbed : (eat : Bool) → 0 < columns_of (tab_next eat s.lines.tab) → byte_at page (next_place s.tokenizer.at eat s.tokenizer.job.length) ≡ tab
-  unfolding if◌then◌else◌
+  unfolding when◌then◌else◌
   next_tabbed true p = absurd (omega (arith, p))
   next_tabbed false p = h.tabbed p
 
   next_same : (eat : Bool) → eat ≡ false → next_place s.tokenizer.at eat s.tokenizer.job.length ≡ s.tokenizer.at
-  unfolding if◌then◌else◌
+  unfolding when◌then◌else◌
   next_same true e = clash _ refl e
   next_same false e = refl
 
@@ -311,7 +311,7 @@ both_placed page [] b p q = q
 both_placed page (e ∷ a) b p q = (p.0, both_placed page a b p.1 q)
 
 pub events_carry_their_lines : EventsPlaced
-unfolding run_events if◌then◌else◌
+unfolding run_events when◌then◌else◌
 events_carry_their_lines page zero s h = tt
 events_carry_their_lines page (suc k) s h =
     case _ (rests s.tokenizer.state) (λ e. rw e tt)
@@ -326,7 +326,7 @@ placed_is page place line t short h e =
     (ap (λ (l : Line). l.number) e, ap (λ (l : Line). column_in l t) e ∙ column_is page short place (omega (arith, short, h)) t)
 
 pub answers_carry_their_lines : AnswersPlaced
-unfolding answer_of refusal verdict_refusal among if◌then◌else◌
+unfolding answer_of refusal verdict_refusal among when◌then◌else◌
 answers_carry_their_lines page s h =
     let P = AnswerPlaced page s in
     let short = page_short page s h in

@@ -2,7 +2,7 @@
 use Prim.Native.Nat.{ℕ, ◌+◌}
 use mathlib.Core.Path.{◌≡◌, refl}
 use native.Mathlib.Omega.{arith}
-use Rattle.base.specs.If.{if◌then◌else◌}
+use Rattle.base.specs.If.{when◌then◌else◌}
 use Rattle.base.specs.Range.{within}
 use Rattle.base.specs.Table.{find}
 use Rattle.base.specs.Byte.{dot, slash, colon}
@@ -19,20 +19,20 @@ use Rattle.scan_theorems.proofs.TagSinks.{name_sinks, tag_end_rank}
 module _ (p : Prices) where
   -- the three states after a name
   primary_returns : returns p mdx_jsx_primary_name_after ≡ run_ends p
-  unfolding returns find if◌then◌else◌
+  unfolding returns find when◌then◌else◌
   primary_returns = refl
 
   member_returns : returns p mdx_jsx_member_name_after ≡ run_ends p
-  unfolding returns find if◌then◌else◌
+  unfolding returns find when◌then◌else◌
   member_returns = refl
 
   local_returns : returns p mdx_jsx_local_name_after ≡ run_ends p
-  unfolding returns find if◌then◌else◌
+  unfolding returns find when◌then◌else◌
   local_returns = refl
 
 module _ (p : Prices) (at : ℕ) (r : Regs) (b : ℕ) where
   attribute_rank : rank p mdx_jsx_attribute_before b r ≡ p.none + p.three
-  unfolding rank returns is_return within find if◌then◌else◌
+  unfolding rank returns is_return within find when◌then◌else◌
   attribute_rank = refl
 
   pub name_before_sinks : Sinks p at r b (p.none + p.three) (name_before b)

@@ -5,7 +5,7 @@ use mathlib.Core.Bool.{true, false, ◌&&◌}
 use native.Mathlib.Omega.{arith}
 use lib.Dec.{leb, eqb}
 use borrow.Author.Tests.{leb-true, le-leb, ltb-false, ne_eqb}
-use Rattle.base.specs.If.{if◌then◌else◌}
+use Rattle.base.specs.If.{when◌then◌else◌}
 use Rattle.base.proofs.Choice.{both}
 use Rattle.base.proofs.Ranges.{above}
 use Rattle.base.specs.State.{asking, rests}
@@ -104,9 +104,9 @@ running construct name h r =
 
 -- in an expression or a tag, and in an ESM block
 pub low : (construct name : ℕ) → eqb construct esm ≡ false → listed construct name ≡ true → rests name ≡ false → of_tags name ≡ true
-unfolding runs_in if◌then◌else◌
+unfolding runs_in when◌then◌else◌
 low construct name c h r = rw c at (running construct name h r)
 
 pub high : (construct name : ℕ) → eqb construct esm ≡ true → listed construct name ≡ true → rests name ≡ false → of_esm name ≡ true
-unfolding runs_in if◌then◌else◌
+unfolding runs_in when◌then◌else◌
 high construct name c h r = rw c at (running construct name h r)

@@ -7,7 +7,7 @@ use mathlib.Core.List.{List, [], ◌∷◌}
 use native.Mathlib.Omega.{arith}
 use lib.Dec.{eqb}
 use Rattle.base.proofs.Tables.{◌&◌, found}
-use Rattle.base.specs.If.{if◌then◌else◌}
+use Rattle.base.specs.If.{when◌then◌else◌}
 use Rattle.base.proofs.Choice.{if_is}
 use Rattle.base.specs.Table.{find}
 use Rattle.base.specs.Byte.{line_feed, end_of_page}
@@ -54,28 +54,28 @@ module _ (p : Prices) where
 
   -- a line prefix that ends inside a tab takes its columns first
   abbrev pub prefix_rank : ℕ → ℕ → ℕ
-  prefix_rank b size = if prefix_in_tab b size then p.none + run_ends else run_ends
+  prefix_rank b size = when prefix_in_tab b size then p.none + run_ends else run_ends
 
   -- a run of data, or of a quoted value, is left where it stops
   abbrev pub inside_rank : ℕ → ℕ → ℕ
-  inside_rank b depth = if stops b depth then run_ends else p.none
+  inside_rank b depth = when stops b depth then run_ends else p.none
 
   abbrev pub quoted_rank : ℕ → ℕ → ℕ
-  quoted_rank b quote = if quoted_ends b quote then p.one + (p.none + p.four) else p.none
+  quoted_rank b quote = when quoted_ends b quote then p.one + (p.none + p.four) else p.none
 
   -- a verdict is asked for at a `}`, which it eats; only a state that no scan reaches asks at the page's end
   abbrev pub verdict_rank : ℕ → ℕ → ℕ
-  verdict_rank b back = if eqb b end_of_page then p.three + returns back + (p.one + run_ends) else p.three
+  verdict_rank b back = when eqb b end_of_page then p.three + returns back + (p.one + run_ends) else p.three
 
   -- white space, which eats what is white space and then returns to `back`
   abbrev pub start_rank : ℕ → ℕ → ℕ
-  start_rank b back = if eqb b line_feed then p.two else if whitespace_or_end b then p.one + p.none else p.none + returns back
+  start_rank b back = when eqb b line_feed then p.two else when whitespace_or_end b then p.one + p.none else p.none + returns back
 
   abbrev pub whitespace_rank : ℕ → ℕ → ℕ
-  whitespace_rank b back = if eqb b line_feed then p.one + p.two else if whitespace_or_end b then p.none else p.one + returns back
+  whitespace_rank b back = when eqb b line_feed then p.one + p.two else when whitespace_or_end b then p.none else p.one + returns back
 
   abbrev pub retried_rank : ℕ → ℕ → ℕ
-  retried_rank b back = if whitespace_or_end b then p.one + p.none else p.none + returns back
+  retried_rank b back = when whitespace_or_end b then p.one + p.none else p.none + returns back
 
   -- every other state, at the byte b and with the registers r
   abbrev pub others : ℕ → Regs → List (ℕ × ℕ)
@@ -104,10 +104,10 @@ module _ (p : Prices) where
       ∷ []
 
   unfoldable pub rank : ℕ → ℕ → Regs → ℕ
-  rank name b r = if is_return name then returns name else find name (others b r) 0
+  rank name b r = when is_return name then returns name else find name (others b r) 0
 
   pub rank_return : (name b : ℕ) (r : Regs) → is_return name ≡ true → rank name b r ≡ returns name
-  unfolding rank if◌then◌else◌
+  unfolding rank when◌then◌else◌
   rank_return name b r h = rw h
 
   -- ---- none is more than what is paid for one byte
@@ -137,7 +137,7 @@ module _ (p : Prices) where
       (omega (arith, p))
 
   -- a choice of two small numbers is small
-  chosen : (t : Bool) (x y : ℕ) → x ≤ p.most → y ≤ p.most → (if t then x else y) ≤ p.most
+  chosen : (t : Bool) (x y : ℕ) → x ≤ p.most → y ≤ p.most → (when t then x else y) ≤ p.most
   chosen t x y f g = if_is ℕ (λ (k : ℕ). k ≤ p.most) t x y (λ e. f) (λ e. g)
 
   pub rank_small : (name b : ℕ) (r : Regs) → awaits name ≡ false → rank name b r ≤ p.most

@@ -7,7 +7,7 @@ use mathlib.Core.List.{List, [], ◌∷◌}
 use lib.ListN.{length, get_or, length-append}
 use lib.Dec.{leb, ltb, eqb}
 use borrow.Author.Tests.{eq-eqb, le-ltb}
-use Rattle.base.specs.If.{if◌then◌else◌}
+use Rattle.base.specs.If.{when◌then◌else◌}
 use Rattle.base.proofs.Choice.{if_is, case}
 use Rattle.base.specs.Page.{page_limit, byte_at}
 use Rattle.base.specs.Number as number
@@ -129,7 +129,7 @@ roomy_begun bytes at n start construct kind flags words s enough e =
 
 -- there is a number of words for pages within the limit alone, and they hold events enough from any start on
 pub words_hold : (n start w : ℕ) → SaysWords n w → events_enough (n - start) ≤ room_in w
-unfolding enough_of if◌then◌else◌
+unfolding enough_of when◌then◌else◌
 words_hold n start w e =
     case _ (leb n page_limit)
     (λ l. let x : get_or (enough_of n).values 0 0 ≡ w = ap (λ (a : Said). get_or a.values 0 0) e in

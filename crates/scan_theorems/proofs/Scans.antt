@@ -9,7 +9,7 @@ use mathlib.Core.List.{List, [], ◌∷◌}
 use lib.ListN.{length}
 use lib.Dec.{eqb}
 use borrow.Author.Tests.{le-leb, ltb-false, lt-ltb, eqb-true}
-use Rattle.base.specs.If.{if◌then◌else◌}
+use Rattle.base.specs.If.{when◌then◌else◌}
 use Rattle.base.proofs.Choice.{if_is, if_yes, case, both, and_yes}
 use Rattle.base.specs.Range.{within}
 use Rattle.base.specs.State.{full, asking, rests}
@@ -94,7 +94,7 @@ module _ (page : List ℕ) (s : Scan) (w : Within page s) (r : rests s.tokenizer
 
   -- no room: the scan ends where it is
   cut_off : Fine (retry full Nothing)
-  unfolding moved is_answer within if◌then◌else◌
+  unfolding moved is_answer within when◌then◌else◌
   cut_off =
       record {
         sound = sound_ended page t full w.sound refl (omega arith);
@@ -136,7 +136,7 @@ within_run page = run_keeps page (Within page) (λ s r w. within_step page s w r
 
 -- each is counted
 pub run_counted : (page : List ℕ) (k : ℕ) (s : Scan) → Within page s → (run_scan page k s).steps ≡ s.steps + made page k s
-unfolding run_scan made if◌then◌else◌
+unfolding run_scan made when◌then◌else◌
 run_counted page zero s w = omega arith
 run_counted page (suc k) s w =
     case _ (rests s.tokenizer.state) (λ e. rw e (omega arith))
@@ -144,7 +144,7 @@ run_counted page (suc k) s w =
 
 -- a run with steps enough for what is left comes to rest
 pub run_ends : (page : List ℕ) (k : ℕ) (s : Scan) → Within page s → left page s.tokenizer ≤ k → rests (run_scan page k s).tokenizer.state ≡ true
-unfolding run_scan step_scan if◌then◌else◌
+unfolding run_scan step_scan when◌then◌else◌
 run_ends page zero s w h =
     case _ (rests s.tokenizer.state) (λ e. e) (λ e. absurd (omega (arith, less_left page s w e)))
 run_ends page (suc k) s w h =
@@ -200,11 +200,11 @@ module _
     (g : (s : Scan) (v : Verdict) → s.tokenizer.state ≡ asking → verdict_in_range v ≡ true → P s → P (given_scan s v))
   where
     pub ran_keeps : (k : ℕ) (s : Scan) (lent : List ℕ) → P s → P (run_of page k s lent).scan
-    unfolding run_of if◌then◌else◌
+    unfolding run_of when◌then◌else◌
     ran_keeps k s lent h = case _ (runnable s (length page) (length lent) k) (λ e. rw e (run_keeps page P f k s h)) (λ e. rw e h)
 
     give_keeps : (s : Scan) (v : Verdict) → P s → P (give_of s v).scan
-    unfolding give_of givable if◌then◌else◌
+    unfolding give_of givable when◌then◌else◌
     give_keeps s v h =
         case _ (givable s v)
         (λ e. let a = both (eqb s.tokenizer.state asking) _ e in

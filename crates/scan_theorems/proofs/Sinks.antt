@@ -4,7 +4,7 @@ use mathlib.Core.Path.{◌≡◌, refl}
 use mathlib.Core.Bool.{Bool, true, false}
 use native.Mathlib.Omega.{arith}
 use lib.Dec.{leb, eqb}
-use Rattle.base.specs.If.{if◌then◌else◌}
+use Rattle.base.specs.If.{when◌then◌else◌}
 use Rattle.base.proofs.Choice.{if_is}
 use Rattle.base.specs.Range.{within}
 use Rattle.base.specs.Table.{find}
@@ -55,12 +55,12 @@ pays {p} {m} (falls s e g) = omega (arith, price_least p m.marks)
 pays {p} {m} (stuck s a g) = omega (arith, price_least p m.marks)
 
 -- what sinks by either choice sinks
-pub pick : {p : Prices} {at : ℕ} {r : Regs} {b k : ℕ} {t : Bool} {x y : Move} → (t ≡ true → Sinks p at r b k x) → (t ≡ false → Sinks p at r b k y) → Sinks p at r b k (if t then x else y)
+pub pick : {p : Prices} {at : ℕ} {r : Regs} {b k : ℕ} {t : Bool} {x y : Move} → (t ≡ true → Sinks p at r b k x) → (t ≡ false → Sinks p at r b k y) → Sinks p at r b k (when t then x else y)
 pick {p} {at} {r} {b} {k} {t} {x} {y} = if_is Move (Sinks p at r b k) t x y
 
 -- the white space that may stand here is looked for: what it returns to costs more than white space does
 pub spaced : {p : Prices} {at : ℕ} {r : Regs} {b k : ℕ} {marks : Marks} (back : ℕ) → p.none + p.three ≤ returns p back → price p marks + (p.none + returns p back) ≤ k → Sinks p at r b k (whitespace_here marks back)
-unfolding rank is_return within find if◌then◌else◌
+unfolding rank is_return within find when◌then◌else◌
 spaced {p} {b} {k} {marks} back h g =
     falls refl refl
     (if_is ℕ (λ (x : ℕ). price p marks + x ≤ k) (eqb b line_feed) p.two _ (λ e. omega (arith, p))

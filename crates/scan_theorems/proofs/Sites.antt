@@ -9,7 +9,7 @@ use lib.Dec.{leb, eqb}
 use borrow.Author.Tests.{ne_eqb, eq-eqb, eqb-true, leb-true}
 use Rattle.base.proofs.Tables.{◌&◌, Each}
 use Rattle.base.specs.Byte.{greater_than}
-use Rattle.base.specs.If.{if◌then◌else◌}
+use Rattle.base.specs.If.{when◌then◌else◌}
 use Rattle.base.proofs.Choice.{if_is, or_cases, or_no, or_yes}
 use Rattle.base.proofs.Ranges.{within_is}
 use Rattle.base.specs.Page.{byte_at}
@@ -63,7 +63,7 @@ data Sited (b : ℕ) (m : Move) : Type 0 where
   plain : eqb m.next state.mdx_jsx_tag_end ≡ false → placed m ≡ true → Sited b m
   at_end : eqb b greater_than ≡ true → m.eat ≡ false → stays m.effect ≡ true → placed m ≡ true → Sited b m
 
-either : (b : ℕ) (t : Bool) (x y : Move) → (t ≡ true → Sited b x) → (t ≡ false → Sited b y) → Sited b (if t then x else y)
+either : (b : ℕ) (t : Bool) (x y : Move) → (t ≡ true → Sited b x) → (t ≡ false → Sited b y) → Sited b (when t then x else y)
 either b t x y p q = if_is Move (Sited b) t x y p q
 
 ruleset sites = (either, plain, at_end, refl)
@@ -187,7 +187,7 @@ module _ (page : List ℕ) (t : Tokenizer) where
   named m p e = site_named m.effect t.at _ t.regs (rw e at p)
 
   placed_moved : (m : Move) → Sited (byte_at page t.at) m → Placed page (moved t m)
-  unfolding moved if◌then◌else◌
+  unfolding moved when◌then◌else◌
   placed_moved m (plain n p) = record { tag_end = λ e. clash _ (eq-eqb m.next state.mdx_jsx_tag_end e) n; sited = named m p }
   placed_moved m (at_end g e s p) =
       record {

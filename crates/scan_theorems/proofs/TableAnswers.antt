@@ -7,7 +7,7 @@ use mathlib.Core.List.{List, [], ◌∷◌}
 use lib.Dec.{leb, eqb}
 use borrow.Author.Tests.{leb-false, eq-eqb}
 use Rattle.base.proofs.Tables.{◌&◌, found_or}
-use Rattle.base.specs.If.{if◌then◌else◌, among}
+use Rattle.base.specs.If.{when◌then◌else◌, among}
 use Rattle.base.proofs.Choice.{if_is, case, or_cases}
 use Rattle.base.specs.Range.{within}
 use Rattle.base.proofs.Ranges.{within_is, all_hold}
@@ -57,7 +57,7 @@ rests_tabled construct n l h =
     second : (a b : Bool) → (not a || b) ≡ true → a ≡ true → b ≡ true
     second a b q e = rw e at q
 
-    running : (c k : ℕ) → k < 32 → (if eqb c esm then within 68 76 k else within 32 67 k) ≡ true → ⊥
+    running : (c k : ℕ) → k < 32 → (when eqb c esm then within 68 76 k else within 32 67 k) ≡ true → ⊥
     running c k l = if_is Bool (λ (x : Bool). x ≡ true → ⊥) (eqb c esm) _ _ (λ e h. omega (arith, within_is 68 76 k h)) (λ e h. omega (arith, within_is 32 67 k h))
 
 module _ (s : Scan) (construct : ℕ) (h : listed construct s.tokenizer.state ≡ true) (p : sited_end s.tokenizer.state ≡ true → 1 ≤ s.tokenizer.regs.site) where
@@ -109,12 +109,12 @@ placed_at : (page : List ℕ) (s : Scan) → eqb s.tokenizer.state state.mdx_jsx
 placed_at page s e f = record { tag_end = λ k. clash _ (eq-eqb s.tokenizer.state state.mdx_jsx_tag_end k) e; sited = λ k. clash _ k f }
 
 given_placed : (page : List ℕ) (s : Scan) (v : Verdict) → Placed page (given_scan s v).tokenizer
-unfolding given_scan if◌then◌else◌
+unfolding given_scan when◌then◌else◌
 given_placed page s v =
     placed_at page (given_scan s v) (case _ (eqb s.tokenizer.job.construct esm) (λ c. rw c) (λ c. rw c)) (case _ (eqb s.tokenizer.job.construct esm) (λ c. rw c) (λ c. rw c))
 
 fresh_placed : (page : List ℕ) (j : Job) → Placed page (fresh_scan page j).tokenizer
-unfolding fresh_in if◌then◌else◌
+unfolding fresh_in when◌then◌else◌
 fresh_placed page j =
     placed_at page (fresh_scan page j)
     (case _ (eqb j.construct esm) (λ c. rw c) (λ c. case _ (eqb j.construct tag) (λ d. rw (c, d)) (λ d. rw (c, d))))

@@ -7,7 +7,7 @@ use native.Mathlib.Omega.{arith}
 use lib.ListN.{length}
 use lib.Dec.{leb, ltb, eqb}
 use borrow.Author.Tests.{ltb-true, lt-ltb}
-use Rattle.base.specs.If.{if◌then◌else◌}
+use Rattle.base.specs.If.{when◌then◌else◌}
 use Rattle.base.proofs.Choice.{case, both, if_is}
 use Rattle.base.specs.Page.{byte_at}
 use Rattle.base.specs.State.{bad_call}
@@ -67,7 +67,7 @@ module _ (p : Prices) (page : List ℕ) (t : Tokenizer) (size : length page ≡ 
   k = rank p t.state (byte_at page t.at) t.regs
 
   eaten : (m : Move) → stays m.effect ≡ true → m.eat ≡ true → awaits m.next ≡ false → price p m.marks ≤ k → t.at < length page → Paid m
-  unfolding if◌then◌else◌
+  unfolding when◌then◌else◌
   eaten m s e a g l =
       let next : next_place t.at m.eat t.job.length ≡ t.at + 1 = rw (e, lt-ltb t.at t.job.length (omega arith)) in
       omega (arith, here, ahead_step p page t.at l, stepped m (t.at + 1) next s, due_most p page t.job.construct m.next (t.at + 1) (changed m.effect t.at (t.at + 1) t.regs) c a)
@@ -80,7 +80,7 @@ module _ (p : Prices) (page : List ℕ) (t : Tokenizer) (size : length page ≡ 
       (λ f. omega (arith, here, stepped m t.at next s, due_on p page t.job.construct m.next t.at (changed m.effect t.at t.at t.regs) c f))
 
   pub judged : (m : Move) → Sinks p t.at t.regs (byte_at page t.at) k m → Paid m
-  unfolding if◌then◌else◌ moved
+  unfolding when◌then◌else◌ moved
   judged m (ends h g) = omega (arith, here, due_over p page (moved t m) h)
   judged m (eats s e n a g) = eaten m s e a g (place_in_lem page t.at n)
   judged m (falls s e h) = stood m s (rw e) h

@@ -5,7 +5,7 @@ use mathlib.Core.Path.{◌≡◌, refl}
 use mathlib.Core.Bool.{Bool, true, false}
 use native.Mathlib.Omega.{arith}
 use lib.Dec.{eqb}
-use Rattle.base.specs.If.{if◌then◌else◌}
+use Rattle.base.specs.If.{when◌then◌else◌}
 use Rattle.base.proofs.Choice.{case}
 use Rattle.base.specs.Range.{within}
 use Rattle.base.specs.Table.{find}
@@ -34,7 +34,7 @@ use Rattle.scan_theorems.proofs.Rank.{awaits, rank, returns, start_rank, whitesp
 use Rattle.scan_theorems.proofs.Sinks.{Sinks, ends, eats, falls, pick, spaced}
 
 name_before_returns : (p : Prices) → returns p mdx_jsx_name_before ≡ p.none + p.three
-unfolding returns find if◌then◌else◌
+unfolding returns find when◌then◌else◌
 name_before_returns p = refl
 
 -- the five states inside a name, in which the byte goes on with the name or white space is looked for
@@ -45,7 +45,7 @@ name_sinks {p} {b} over same marks after site note a h g =
 
 module _ (p : Prices) (at : ℕ) (r : Regs) (b : ℕ) where
   pub tag_end_rank : rank p mdx_jsx_tag_end b r ≡ p.three
-  unfolding rank is_return within find if◌then◌else◌
+  unfolding rank is_return within find when◌then◌else◌
   tag_end_rank = refl
 
   pub start_sinks : (token : ℕ) → Sinks p at r b p.three (start b token)
@@ -64,38 +64,38 @@ module _ (p : Prices) (at : ℕ) (r : Regs) (b : ℕ) where
   tag_end_sinks token = pick (λ e. ends refl (omega arith)) (λ e. ends refl (omega (arith, p)))
 
   retried_rank_lem : rank p mdx_jsx_es_whitespace_inside_retried b r ≡ p.none
-  unfolding rank is_return within find if◌then◌else◌
+  unfolding rank is_return within find when◌then◌else◌
   retried_rank_lem = refl
 
   -- white space returns to where it was sent from
   module _ (h : is_return r.back ≡ true) where
     inside_rank_lem : eqb b line_feed ≡ false → whitespace_or_end b ≡ true → rank p mdx_jsx_es_whitespace_inside b r ≡ p.none
-    unfolding rank is_return within find if◌then◌else◌
+    unfolding rank is_return within find when◌then◌else◌
     inside_rank_lem e f = rw (e, f)
 
     start_rank_lem : eqb b line_feed ≡ true → rank p mdx_jsx_es_whitespace_start b r ≡ p.two
-    unfolding rank is_return within find if◌then◌else◌
+    unfolding rank is_return within find when◌then◌else◌
     start_rank_lem e = rw e
 
     pub whitespace_start_sinks : Sinks p at r b (start_rank p b r.back) (es_whitespace_start b r.back)
-    unfolding if◌then◌else◌
+    unfolding when◌then◌else◌
     whitespace_start_sinks =
         case _ (eqb b line_feed) (λ e. rw e (eats refl refl (byte_there b line_feed e refl) refl (omega arith)))
         (λ e. rw e (case _ (whitespace_or_end b) (λ f. rw f (falls refl refl (omega (arith, inside_rank_lem e f)))) (λ f. rw f (falls refl refl (omega (arith, rank_return p r.back b r h))))))
 
     pub whitespace_inside_sinks : Sinks p at r b (whitespace_rank p b r.back) (es_whitespace_inside b r.back)
-    unfolding if◌then◌else◌
+    unfolding when◌then◌else◌
     whitespace_inside_sinks =
         case _ (eqb b line_feed) (λ e. rw e (falls refl refl (omega (arith, start_rank_lem e))))
         (λ e. rw e (case _ (eqb b end_of_page) (λ f. rw f (ends refl (omega arith)))
         (λ f. rw f (case _ (is_whitespace b) (λ g. rw g (eats refl refl f refl (omega arith))) (λ g. rw g (falls refl refl (omega (arith, rank_return p r.back b r h))))))))
 
   pub whitespace_eol_sinks : Sinks p at r b (p.none + start_rank p b r.back) es_whitespace_eol_after
-  unfolding rank is_return within find if◌then◌else◌
+  unfolding rank is_return within find when◌then◌else◌
   whitespace_eol_sinks = falls refl refl (omega arith)
 
   pub retried_start_sinks : is_return r.back ≡ true → Sinks p at r b (retried_rank p b r.back) (es_whitespace_start_retried b r.back)
-  unfolding if◌then◌else◌
+  unfolding when◌then◌else◌
   retried_start_sinks h =
       case _ (whitespace_or_end b) (λ f. rw f (falls refl refl (omega (arith, retried_rank_lem)))) (λ f. rw f (falls refl refl (omega (arith, rank_return p r.back b r h))))
 

@@ -6,7 +6,7 @@ use native.Mathlib.Omega.{arith}
 use lib.Dec.{leb, eqb}
 use borrow.Author.Tests.{eqb-true, leb-true}
 use Rattle.base.specs.Byte.{at_sign}
-use Rattle.base.specs.If.{if◌then◌else◌}
+use Rattle.base.specs.If.{when◌then◌else◌}
 use Rattle.base.proofs.Choice.{if_is, case, both, or_yes'}
 use Rattle.base.specs.Range.{within}
 use Rattle.base.proofs.Ranges.{is_within}
@@ -28,7 +28,7 @@ stands true name = answers name || (eqb name state.asking || within state.mdx_es
 stands false name = answers name || (eqb name state.asking || within state.mdx_expression_start state.mdx_jsx_es_whitespace_inside_retried name)
 
 pub stands_listed : (construct name : ℕ) (e : Bool) → eqb construct esm ≡ e → stands e name ≡ true → listed construct name ≡ true
-unfolding listed is_answer runs_in if◌then◌else◌
+unfolding listed is_answer runs_in when◌then◌else◌
 stands_listed construct name true c h = rw c h
 stands_listed construct name false c h = rw c h
 
@@ -54,7 +54,7 @@ pub data Tame (e : Bool) (m : Move) : Type 0 where
   tame : stands e m.next ≡ true → calm m.effect ≡ true → Tame e m
 
 -- a choice of tame decisions
-pub either : (e t : Bool) (x y : Move) → Tame e x → Tame e y → Tame e (if t then x else y)
+pub either : (e t : Bool) (x y : Move) → Tame e x → Tame e y → Tame e (when t then x else y)
 either e t x y p q = if_is Move (Tame e) t x y (λ h. p) (λ h. q)
 
 -- where white space and an expression return to

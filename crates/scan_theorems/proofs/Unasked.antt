@@ -9,7 +9,7 @@ use lib.Dec.{ltb, eqb}
 use borrow.Author.Tests.{eqb-true}
 use Rattle.base.proofs.Tables.{◌&◌, Each}
 use Rattle.base.specs.Byte.{line_feed, end_of_page}
-use Rattle.base.specs.If.{if◌then◌else◌}
+use Rattle.base.specs.If.{when◌then◌else◌}
 use Rattle.base.proofs.Choice.{if_is, and_no, and_no', or_cases, not_yes}
 use Rattle.base.proofs.Ranges.{within_is, all_hold}
 use Rattle.base.specs.Page.{byte_at, in_column_one}
@@ -60,7 +60,7 @@ last_stays (Refuse site note) = true
 data Unasked (m : Move) : Type 0 where
   unasked : needs_verdict m.next ≡ false → last_stays m.effect ≡ true → Unasked m
 
-either : (t : Bool) (x y : Move) → Unasked x → Unasked y → Unasked (if t then x else y)
+either : (t : Bool) (x y : Move) → Unasked x → Unasked y → Unasked (when t then x else y)
 either t x y p q = if_is Move Unasked t x y (λ h. p) (λ h. q)
 
 return_needs_none : (back : ℕ) → is_return back ≡ true → needs_verdict back ≡ false

@@ -3,7 +3,7 @@
 -- Line.antt). The theorems are in proofs/Lined.antt, under the names that stand beside them here.
 use Rattle.std.specs.Prelude.{ℕ, ◌+◌, ◌≤◌, ◌<◌, ◌≡◌, true, List, [], ◌∷◌, eqb, length, get_or}
 use Rattle.base.specs.Byte.{tab}
-use Rattle.base.specs.If.{if◌then◌else◌, among}
+use Rattle.base.specs.If.{when◌then◌else◌, among}
 use Rattle.base.specs.Page.{byte_at}
 use Rattle.base.specs.Tab.{columns_of}
 use Rattle.base.specs.Number as number
@@ -75,7 +75,7 @@ place_named =
 
 -- how far inside a tab that place is: where a scan stands as far as the scan is, and where a verdict found fault nowhere
 abbrev pub columns_passed : Scan → Said → ℕ
-columns_passed s a = if eqb a.number state.verdict_error then 0 else columns_of s.lines.tab
+columns_passed s a = when eqb a.number state.verdict_error then 0 else columns_of s.lines.tab
 
 -- such an answer of a scan carries the place first, then its line and its column
 abbrev pub AnswerPlaced : List ℕ → Scan → Said → Type 0

@@ -1,7 +1,7 @@
 -- What is promised of every scan, for an auditor to read: how many steps it makes, which answers it gives and exactly when, and that the
 -- states that calls give are in range. The theorems are in proofs/, under the names that stand beside them here.
 use Rattle.std.specs.Prelude.{ℕ, zero, suc, ◌+◌, ◌-◌, ◌*◌, ◌≤◌, ◌<◌, ◌≡◌, true, false, List, [], ◌∷◌, eqb, length, get_or}
-use Rattle.base.specs.If.{if◌then◌else◌, among}
+use Rattle.base.specs.If.{when◌then◌else◌, among}
 use Rattle.base.specs.Number as number
 use Rattle.base.specs.State as state
 use Rattle.base.specs.State.{rests}
@@ -33,7 +33,7 @@ unfoldable pub made : List ℕ → ℕ → Scan → ℕ
 made page zero s = 0
 made page (suc k) s =
     let r = made page k (step_scan page s) in
-    if rests s.tokenizer.state then 0 else r + 1
+    when rests s.tokenizer.state then 0 else r + 1
 
 -- and a whole scan, with the verdicts that it is given, applying them included
 unfoldable pub made_alone : List ℕ → ℕ → List Verdict → Scan → ℕ

@@ -3,7 +3,7 @@
 --
 -- How a scan, a worker and an answer are written as numbers is in crate `crossing`, and so are the laws that nothing is lost on the way.
 use Rattle.std.specs.Prelude.{ℕ, List}
-use Rattle.base.specs.If.{if◌then◌else◌}
+use Rattle.base.specs.If.{when◌then◌else◌}
 use Rattle.scan.specs.Answer.{refused}
 use Rattle.scan.specs.Call as single
 use Rattle.scan.specs.Call.{Begun, started, not_started, no_scan, asked_answer, begin_of, run_of, give_of, single_of}
@@ -64,15 +64,15 @@ abbrev pub new_face : List ℕ → ℕ → ℕ → ℕ → ℕ → ℕ → ℕ �
 new_face bytes at n start construct kind flags words = begun (begin_of bytes at n start construct kind flags words)
 
 unfoldable pub run_face : List ℕ → ℕ → ScanNumbers → List ℕ → Ran
-run_face page allowance c words = if scan_listed c then crossed (run_of page allowance (scan_in c) words) else ran (ran_refused c) words
+run_face page allowance c words = when scan_listed c then crossed (run_of page allowance (scan_in c) words) else ran (ran_refused c) words
 
 unfoldable pub give_face : ScanNumbers → ℕ → ℕ → ℕ → RanNumbers
 give_face c v n offset =
-    if verdict_listed v then (if scan_listed c then across (give_of (scan_in c) (verdict_in v n offset)) else ran_refused c)
+    when verdict_listed v then (when scan_listed c then across (give_of (scan_in c) (verdict_in v n offset)) else ran_refused c)
     else ran_refused c
 
 unfoldable pub answer_face : ScanNumbers → AnswerNumbers
-answer_face c = if scan_listed c then answer_numbers (asked_answer (scan_in c)) else answer_numbers refused
+answer_face c = when scan_listed c then answer_numbers (asked_answer (scan_in c)) else answer_numbers refused
 
 -- where a body is, and the scratch
 pub record Read : Type 0 where
@@ -87,7 +87,7 @@ body_read l kind = read (body_numbers l.answer kind) l.scratch
 
 unfoldable pub body_face : List ℕ → ScanNumbers → List ℕ → Read
 body_face page c scratch =
-    if scan_listed c then body_read (collect_of page (scan_in c) scratch) (body_kind (scan_in c))
+    when scan_listed c then body_read (collect_of page (scan_in c) scratch) (body_kind (scan_in c))
     else read (body_numbers refused 0) scratch
 
 -- ---- workers
@@ -108,28 +108,28 @@ start_face q words = started_out (start_of q words).worker (start_of q words).an
 
 unfoldable pub admit_face : List ℕ → ℕ → ℕ → ℕ → ℕ → ℕ → ℕ → WorkerNumbers → CalledNumbers
 admit_face bytes at n start construct kind flags c =
-    if worker_listed c then called_across (admit_of bytes at n start construct kind flags (worker_in c))
+    when worker_listed c then called_across (admit_of bytes at n start construct kind flags (worker_in c))
     else called_refused c
 
 unfoldable pub turn_face : List ℕ → WorkerNumbers → List ℕ → Called
 turn_face bytes c events =
-    if worker_listed c then called (called_across (turn_of bytes (worker_in c) events)) (turn_of bytes (worker_in c) events).memory
+    when worker_listed c then called (called_across (turn_of bytes (worker_in c) events)) (turn_of bytes (worker_in c) events).memory
     else called (called_refused c) events
 
 unfoldable pub verdict_face : ℕ → ℕ → ℕ → ℕ → WorkerNumbers → CalledNumbers
 verdict_face i v n offset c =
-    if verdict_listed v then (if worker_listed c then called_across (verdict_of i (verdict_in v n offset) (worker_in c)) else called_refused c)
+    when verdict_listed v then (when worker_listed c then called_across (verdict_of i (verdict_in v n offset) (worker_in c)) else called_refused c)
     else called_refused c
 
 unfoldable pub collect_face : ℕ → WorkerNumbers → CalledNumbers
-collect_face i c = if worker_listed c then called_across (collect_call i (worker_in c)) else called_refused c
+collect_face i c = when worker_listed c then called_across (collect_call i (worker_in c)) else called_refused c
 
 -- a worker is not changed by a look at it, so none is handed back
 unfoldable pub place_body_face : List ℕ → ℕ → WorkerNumbers → List ℕ → Read
 place_body_face bytes i c scratch =
-    if worker_listed c then
+    when worker_listed c then
     read (body_numbers (body_call bytes i (worker_in c) scratch).answer (view_of i (worker_in c)).body) (body_call bytes i (worker_in c) scratch).memory
     else read (body_numbers refused 0) scratch
 
 unfoldable pub view_face : ℕ → WorkerNumbers → View
-view_face i c = if worker_listed c then view_of i (worker_in c) else nothing_seen bad_call
+view_face i c = when worker_listed c then view_of i (worker_in c) else nothing_seen bad_call

@@ -7,7 +7,7 @@ use borrow.Author.Tests.{le-leb, lt-leb}
 use lib.Dec.{leb}
 use lib.ListN.{length}
 use lib.Seq.{sets}
-use Rattle.base.specs.If.{if◌then◌else◌}
+use Rattle.base.specs.If.{when◌then◌else◌}
 use Rattle.base.proofs.Choice.{if_yes, if_no, and_yes, and_no'}
 use Rattle.text.specs.declared.hexadecimal.Hex.{Hex}
 use Rattle.text.specs.declared.hexadecimal.Hex.TheVariants.{Decoded, BadHex, NoRoom}
@@ -23,10 +23,10 @@ module _ (line : List ℕ) (from to : ℕ) (out : List ℕ) (ordered : from ≤ 
   Answers x b = (x ≡ decoded_of line from to (length out)) × (b ≡ buffer_of line from to out)
 
   abbrev filled : List ℕ
-  filled = if leb (count_of line from to) (length out) then sets out 0 (bytes_of (part line from to)) else out
+  filled = when leb (count_of line from to) (length out) then sets out 0 (bytes_of (part line from to)) else out
 
   abbrev answer : Hex
-  answer = if leb (count_of line from to) (length out) then Decoded (count_of line from to) else NoRoom
+  answer = when leb (count_of line from to) (length out) then Decoded (count_of line from to) else NoRoom
 
   pub no_pairs : pairs (part line from to) ≡ false → Answers BadHex out
   no_pairs e =

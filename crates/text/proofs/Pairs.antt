@@ -8,7 +8,7 @@ use borrow.Author.Tests.{leb-true, ltb-true, ltb-false}
 use lib.Dec.{leb, ltb}
 use lib.ListN.{length, get_or, drop, drop_of_length-le}
 use Rattle.base.specs.Byte.{digit0, digit9, small_a}
-use Rattle.base.specs.If.{if◌then◌else◌}
+use Rattle.base.specs.If.{when◌then◌else◌}
 use Rattle.base.proofs.Choice.{if_is, case, both}
 use Rattle.base.specs.Range.{within}
 use Rattle.text.specs.Hex.{small_f, hex_value, is_hex, pairs, bytes_of}
@@ -21,7 +21,7 @@ within_high low high x e = leb-true x high (both (leb low x) (leb x high) e).1
 pub at_most_16 : (b : ℕ) → hex_value b ≤ 16
 unfolding hex_value
 at_most_16 b =
-    if_is ℕ (λ (v : ℕ). v ≤ 16) (within digit0 digit9 b) (b - digit0) (if within small_a small_f b then b - small_a + 10 else 16)
+    if_is ℕ (λ (v : ℕ). v ≤ 16) (within digit0 digit9 b) (b - digit0) (when within small_a small_f b then b - small_a + 10 else 16)
     (λ e. let h = within_high digit0 digit9 b e in omega arith)
     (λ e.
     if_is ℕ (λ (v : ℕ). v ≤ 16) (within small_a small_f b) (b - small_a + 10) 16

@@ -1,7 +1,7 @@
 -- A decimal number: one to ten digits, up to 2^32 - 1.
 use Rattle.std.specs.Prelude.{ℕ, ◌+◌, ◌-◌, ◌*◌, Bool, true, ◌&&◌, List, [], ◌∷◌, eqb, ltb, length}
 use Rattle.base.specs.Byte.{digit0, digit9, space}
-use Rattle.base.specs.If.{if◌then◌else◌}
+use Rattle.base.specs.If.{when◌then◌else◌}
 use Rattle.base.specs.Range.{within}
 use Rattle.text.specs.declared.numbers.Parsed.{Parsed}
 use Rattle.text.specs.declared.numbers.Parsed.TheVariants.{Number, Bad}
@@ -27,13 +27,13 @@ value_from v (d ∷ t) = value_from (v * 10 + (d - digit0)) t
 
 abbrev pub number_of : List ℕ → Parsed
 number_of s =
-    if eqb (length s) 0 then Bad
-    else if ltb most_digits (length s) then Bad
-    else if all_digits s then (if ltb largest (value_from 0 s) then Bad else Number (value_from 0 s))
+    when eqb (length s) 0 then Bad
+    else when ltb most_digits (length s) then Bad
+    else when all_digits s then (when ltb largest (value_from 0 s) then Bad else Number (value_from 0 s))
     else Bad
 
 abbrev pub decimal_of : List ℕ → ℕ → ℕ → Parsed
-decimal_of line from to = if lies line from to then number_of (part line from to) else Bad
+decimal_of line from to = when lies line from to then number_of (part line from to) else Bad
 
 unfoldable pub field_by : Parsed → ℕ → ReadNumber
 field_by (Number n) next = Field n next

@@ -1,7 +1,7 @@
 -- The next line of what is read of an input and not used up: the bytes of a buffer from one place up to another.
 use Rattle.std.specs.Prelude.{ℕ, ◌+◌, ◌-◌, ◌≤◌, ◌≡◌, Bool, true, false, List, ◌++◌, eqb, ltb, length, take, drop}
 use Rattle.base.specs.Byte.{line_feed}
-use Rattle.base.specs.If.{if◌then◌else◌}
+use Rattle.base.specs.If.{when◌then◌else◌}
 use Rattle.text.specs.declared.input.Input.{Input}
 use Rattle.text.specs.declared.input.Line.{Line}
 use Rattle.text.specs.declared.input.Line.TheVariants.{Whole, TooLong, Skipped, More, Ended}
@@ -10,13 +10,13 @@ use Rattle.text.specs.Find.{find_from}
 use Rattle.text.specs.Part.{part}
 
 unfoldable pub least_of : ℕ → ℕ → ℕ
-least_of a b = if ltb a b then a else b
+least_of a b = when ltb a b then a else b
 
 -- the turns that are left after one more
 unfoldable pub turns_left : ℕ → Bool → ℕ
 turns_left left going =
-    if eqb left 0 then 0
-    else if going then left - 1
+    when eqb left 0 then 0
+    else when going then left - 1
     else 0
 
 -- no bytes are left over
@@ -29,27 +29,27 @@ cut_of line from to input = record { line = line; from = from; to = to; input = 
 -- a line that ends in a line feed
 unfoldable pub line_of : ℕ → ℕ → ℕ → Bool → Bool → Taken
 line_of at mark end skips ended =
-    if skips then cut_of Skipped at mark (record { at = mark + 1; end = end; skips = false; ended = ended })
+    when skips then cut_of Skipped at mark (record { at = mark + 1; end = end; skips = false; ended = ended })
     else cut_of Whole at mark (record { at = mark + 1; end = end; skips = false; ended = ended })
 
 -- what is left when the input has ended
 unfoldable pub last_of : ℕ → ℕ → Bool → Taken
 last_of at end skips =
-    if skips then cut_of Ended at end (record { at = end; end = end; skips = false; ended = true })
-    else if eqb at end then cut_of Ended at end (record { at = end; end = end; skips = false; ended = true })
+    when skips then cut_of Ended at end (record { at = end; end = end; skips = false; ended = true })
+    else when eqb at end then cut_of Ended at end (record { at = end; end = end; skips = false; ended = true })
     else cut_of Whole at end (record { at = end; end = end; skips = false; ended = true })
 
 -- no line feed stands in the unused bytes
 unfoldable pub rest_of : ℕ → ℕ → ℕ → Bool → Bool → Taken
 rest_of at end room skips ended =
-    if ended then last_of at end skips
-    else if skips then cut_of More at end (front_input true)
-    else if eqb (end - at) room then cut_of TooLong at end (front_input true)
+    when ended then last_of at end skips
+    else when skips then cut_of More at end (front_input true)
+    else when eqb (end - at) room then cut_of TooLong at end (front_input true)
     else cut_of More at end (record { at = at; end = end; skips = skips; ended = ended })
 
 abbrev pub taken_at : List ℕ → ℕ → ℕ → Bool → Bool → Taken
 taken_at buffer at end skips ended =
-    if ltb (find_from (part buffer 0 end) at line_feed) end then line_of at (find_from (part buffer 0 end) at line_feed) end skips ended
+    when ltb (find_from (part buffer 0 end) at line_feed) end then line_of at (find_from (part buffer 0 end) at line_feed) end skips ended
     else rest_of at end (length buffer) skips ended
 
 -- places past the buffer's end count as its end

@@ -1,7 +1,7 @@
 -- The four letters that say what is asked of a scan, each with a space after it.
 use Rattle.std.specs.Prelude.{ℕ, ◌+◌, ◌-◌, List, eqb, ltb, leb, length, get_or}
 use Rattle.base.specs.Byte.{space, digit0, small_e}
-use Rattle.base.specs.If.{if◌then◌else◌}
+use Rattle.base.specs.If.{when◌then◌else◌}
 use Rattle.text.specs.declared.letters.ReadLetters.{ReadLetters}
 use Rattle.text.specs.declared.letters.ReadLetters.TheVariants.{Asked, NoLetters}
 
@@ -30,45 +30,45 @@ digit1 = 49
 -- the letter at a place, if a space follows it; else 0
 unfoldable pub letter_at : List ℕ → ℕ → ℕ
 letter_at line at =
-    if leb (length line) at then 0
-    else if ltb (length line - at) 2 then 0
-    else if eqb (get_or line (at + 1) 0) space then get_or line at 0
+    when leb (length line) at then 0
+    else when ltb (length line - at) 2 then 0
+    else when eqb (get_or line (at + 1) 0) space then get_or line at 0
     else 0
 
 -- an expression, a tag, an ESM block
 unfoldable pub construct_of : ℕ → ℕ
 construct_of b =
-    if eqb b small_e then 0
-    else if eqb b small_t then 1
-    else if eqb b small_s then 2
+    when eqb b small_e then 0
+    else when eqb b small_t then 1
+    else when eqb b small_s then 2
     else none
 
 -- the first of two letters, or the second
 unfoldable pub choice_of : ℕ → ℕ → ℕ → ℕ
 choice_of b first second =
-    if eqb b first then 0
-    else if eqb b second then 1
+    when eqb b first then 0
+    else when eqb b second then 1
     else none
 
 unfoldable pub flags_of : ℕ → ℕ → ℕ
 flags_of mode interrupt =
-    if eqb interrupt 0 then mode
-    else if eqb mode 0 then 2
+    when eqb interrupt 0 then mode
+    else when eqb mode 0 then 2
     else 3
 
 unfoldable pub checked_of : ℕ → ℕ → ℕ → ℕ → ReadLetters
 checked_of construct kind mode interrupt =
-    if eqb construct none then NoLetters
-    else if eqb kind none then NoLetters
-    else if eqb mode none then NoLetters
-    else if eqb interrupt none then NoLetters
+    when eqb construct none then NoLetters
+    else when eqb kind none then NoLetters
+    else when eqb mode none then NoLetters
+    else when eqb interrupt none then NoLetters
     else Asked (record { construct = construct; kind = kind; flags = flags_of mode interrupt })
 
 -- flow or text, counting or with verdicts, the interrupt flag clear or set
 abbrev pub letters_of : List ℕ → ℕ → ReadLetters
 letters_of line from =
-    if ltb (length line) 8 then NoLetters
-    else if ltb (length line - 8) from then NoLetters
+    when ltb (length line) 8 then NoLetters
+    else when ltb (length line - 8) from then NoLetters
     else
     checked_of (construct_of (letter_at line from)) (choice_of (letter_at line (from + 2)) small_f small_t)
     (choice_of (letter_at line (from + 4)) small_c small_v)

@@ -2,7 +2,7 @@
 use Rattle.std.specs.Prelude.{ℕ, ◌+◌, ◌-◌, List, eqb, ltb, leb, length, get_or}
 use Rattle.base.specs.declared.Verdict.TheVariants.{Fine, Unfinished, Wrong}
 use Rattle.base.specs.Byte.{at_sign, small_e}
-use Rattle.base.specs.If.{if◌then◌else◌}
+use Rattle.base.specs.If.{when◌then◌else◌}
 use Rattle.text.specs.declared.numbers.Parsed.{Parsed}
 use Rattle.text.specs.declared.numbers.Parsed.TheVariants.{Number, Bad}
 use Rattle.text.specs.declared.verdicts.ReadVerdict.{ReadVerdict}
@@ -17,11 +17,11 @@ abbrev pub small_u : ℕ
 small_u = 117
 
 unfoldable pub fine_of : ℕ → ReadVerdict
-fine_of n = if eqb n 1 then Heard Fine else NoVerdict
+fine_of n = when eqb n 1 then Heard Fine else NoVerdict
 
 -- a number that is read is at most the largest
 unfoldable pub narrow_of : ℕ → ℕ
-narrow_of n = if ltb largest n then 0 else n
+narrow_of n = when ltb largest n then 0 else n
 
 unfoldable pub unfinished_of : Parsed → ReadVerdict
 unfinished_of (Number n) = Heard (Unfinished (narrow_of n))
@@ -38,9 +38,9 @@ wrong_of line from to = wrong_at_of (decimal_of line from (find_from line from a
 
 unfoldable pub verdict_of : List ℕ → ℕ → ℕ → ReadVerdict
 verdict_of line from to =
-    if leb to from then NoVerdict
-    else if ltb (length line) to then NoVerdict
-    else if eqb (get_or line from 0) small_o then fine_of (to - from)
-    else if eqb (get_or line from 0) small_u then unfinished_of (decimal_of line (from + 1) to)
-    else if eqb (get_or line from 0) small_e then wrong_of line (from + 1) to
+    when leb to from then NoVerdict
+    else when ltb (length line) to then NoVerdict
+    else when eqb (get_or line from 0) small_o then fine_of (to - from)
+    else when eqb (get_or line from 0) small_u then unfinished_of (decimal_of line (from + 1) to)
+    else when eqb (get_or line from 0) small_e then wrong_of line (from + 1) to
     else NoVerdict

@@ -2,7 +2,7 @@
 -- `call`, with what the states read of the tokenizer.
 use Rattle.std.specs.Prelude.{ℕ, Bool, ◌&&◌, not, List, [], ◌∷◌, eqb}
 use Rattle.base.specs.Byte.{first_not_ascii, last_byte}
-use Rattle.base.specs.If.{if◌then◌else◌}
+use Rattle.base.specs.If.{when◌then◌else◌}
 use Rattle.base.specs.Range.{within}
 use Rattle.base.specs.Kind as kind
 use Rattle.base.specs.State as state
@@ -31,14 +31,14 @@ text = 1
 
 -- `token_1` of a tag
 abbrev pub tag_token : ℕ → ℕ
-tag_token k = if eqb k text then kind.jsx_text_tag else kind.jsx_flow_tag
+tag_token k = when eqb k text then kind.jsx_text_tag else kind.jsx_flow_tag
 
 -- `token_1` while an expression runs: in a tag it is known by where the expression returns to
 abbrev pub expression_token : ℕ → ℕ → ℕ
 expression_token k back =
-    if eqb back state.mdx_jsx_attribute_expression_after then kind.jsx_tag_attribute_expression
-    else if eqb back state.mdx_jsx_attribute_value_expression_after then kind.jsx_tag_attribute_value_expression
-    else if eqb k text then kind.text_expression
+    when eqb back state.mdx_jsx_attribute_expression_after then kind.jsx_tag_attribute_expression
+    else when eqb back state.mdx_jsx_attribute_value_expression_after then kind.jsx_tag_attribute_value_expression
+    else when eqb k text then kind.text_expression
     else kind.flow_expression
 
 -- row 5: "a tag state other than start and the two quoted-value states runs with a byte of 128 or more at its place"
@@ -163,12 +163,12 @@ of_tag name = within state.mdx_jsx_start state.mdx_jsx_es_whitespace_inside_retr
 
 unfoldable pub state_decision : List ℕ → Tokenizer → ℕ → Move
 state_decision page s b =
-    if of_expression s.state then expression_decision page s b
-    else if of_tag s.state then tag_decision s b
+    when of_expression s.state then expression_decision page s b
+    else when of_tag s.state then tag_decision s b
     else esm_decision page s b
 
 -- the decision of the state that the scan is in
 unfoldable pub decision : List ℕ → Tokenizer → ℕ → Move
 decision page s b =
-    if refuses_not_ascii s.state b then retry state.not_ascii Nothing
+    when refuses_not_ascii s.state b then retry state.not_ascii Nothing
     else state_decision page s b

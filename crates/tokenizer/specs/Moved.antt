@@ -1,6 +1,6 @@
 -- What a decision does to a tokenizer: its next state, its place, and each register by itself.
 use Rattle.std.specs.Prelude.{ℕ, ◌+◌, ◌-◌, Bool, ◌&&◌, ltb, eqb}
-use Rattle.base.specs.If.{if◌then◌else◌}
+use Rattle.base.specs.If.{when◌then◌else◌}
 use Rattle.base.specs.Page.{page_limit}
 use Rattle.base.specs.declared.Effect.{Effect}
 use Rattle.base.specs.declared.Effect.TheVariants.{Keep, Deeper, Shallower, Open, PrefixBegins, PrefixGoesOn, PrefixEnds, PrefixInTab, Quote, Return, Save, Restore, Last, Fault, Refuse}
@@ -11,11 +11,11 @@ use Rattle.tokenizer.specs.Registers.{with_back, with_depth, with_prefix, with_q
 
 -- one more, up to a limit
 abbrev pub one_more : ℕ → ℕ → ℕ
-one_more n limit = if ltb n limit then n + 1 else n
+one_more n limit = when ltb n limit then n + 1 else n
 
 -- the place after the byte, where it is eaten and there is one
 abbrev pub next_place : ℕ → Bool → ℕ → ℕ
-next_place at eat length = if eat && ltb at length then at + 1 else at
+next_place at eat length = when eat && ltb at length then at + 1 else at
 
 -- the place of the next step: a look-ahead goes back to where it began
 abbrev pub place_after : Effect → ℕ → ℕ → ℕ
@@ -37,7 +37,7 @@ place_after (Refuse site note) next saved = next
 
 -- the first line prefix of a body stays the first; 0 for none
 abbrev pub first_joint : ℕ → ℕ → ℕ
-first_joint joint at = if eqb joint 0 then at else joint
+first_joint joint at = when eqb joint 0 then at else joint
 
 -- the most braces that a page can have open
 abbrev pub most_braces : ℕ

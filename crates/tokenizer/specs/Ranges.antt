@@ -1,7 +1,7 @@
 -- The ranges of a tokenizer's fields, as docs/NUMBERS.md lists them. docs/SCOPE.md, 'The worker': 12 is given for "a state outside the
 -- ranges docs/ lists (all that calls give are inside)".
 use Rattle.std.specs.Prelude.{ℕ, Bool, true, ◌&&◌, ◌||◌, leb, eqb}
-use Rattle.base.specs.If.{if◌then◌else◌}
+use Rattle.base.specs.If.{when◌then◌else◌}
 use Rattle.base.specs.Page.{page_limit}
 use Rattle.base.specs.Byte.{last_byte}
 use Rattle.base.specs.Range.{within}
@@ -48,7 +48,7 @@ job_in_range j = leb j.length page_limit && (leb j.start j.length && (construct_
 -- the states that a scan runs in, by its construct: an ESM block's, or those of expressions and tags
 unfoldable pub runs_in : ℕ → ℕ → Bool
 runs_in construct name =
-    if eqb construct esm then within mdx_esm_start mdx_esm_verdict name
+    when eqb construct esm then within mdx_esm_start mdx_esm_verdict name
     else within mdx_expression_start mdx_jsx_es_whitespace_inside_retried name
 
 -- the answers that end a scan once it has begun: 0, 1 and 5 to 10. No call gives a scan that rests at another number

@@ -3,7 +3,7 @@ use Prim.Native.Nat.{ℕ}
 use mathlib.Core.Path.{◌≡◌, refl, sym, ap, ◌∙◌}
 use mathlib.Core.List.{List, [], ◌∷◌}
 use lib.ListN.{get_or}
-use Rattle.base.specs.If.{if◌then◌else◌}
+use Rattle.base.specs.If.{when◌then◌else◌}
 use Rattle.base.specs.Table.{find}
 use Rattle.scan.specs.declared.Answer.{Answer}
 use Rattle.scan.specs.declared.Answer.TheVariants.{Done, Nok, TooLong, BadStart, BadText, NotAscii, Eof, Unexpected, VerdictError, VerdictEof, Full, BadCall, Asking, Paused, Kept}
@@ -33,7 +33,7 @@ pub reply_said : Said → Reply
 reply_said a = find a.number (table a.values (λ k. get_or a.values k 0)) (Answered (answer_said a))
 
 answered : (a : Answer) → reply_said (single.said_by a) ≡ Answered (answer_said (single.said_by a))
-unfolding reply_said find if◌then◌else◌
+unfolding reply_said find when◌then◌else◌
 answered (Done end t) = refl
 answered (Nok t) = refl
 answered TooLong = refl
@@ -51,7 +51,7 @@ answered (Paused p t) = refl
 answered Kept = refl
 
 pub read_back : (r : Reply) → reply_said (said_by r) ≡ r
-unfolding reply_said find if◌then◌else◌
+unfolding reply_said find when◌then◌else◌
 read_back (Started l) = ap Started (longest_back l)
 read_back (Placed i) = refl
 read_back (Served i) = refl

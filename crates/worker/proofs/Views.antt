@@ -4,7 +4,7 @@ use mathlib.Core.Path.{◌≡◌}
 use mathlib.Core.Bool.{true, false}
 use lib.Dec.{ltb}
 use borrow.Author.Tests.{le-ltb, lt-ltb}
-use Rattle.base.specs.If.{if◌then◌else◌}
+use Rattle.base.specs.If.{when◌then◌else◌}
 use Rattle.base.specs.Number.{bad_call}
 use Rattle.base.proofs.Choice.{if_yes, if_no, and_yes, and_no, and_no'}
 use Rattle.events.specs.Share.{share_of}
@@ -18,8 +18,8 @@ use Rattle.worker.specs.View.{free, nothing_seen, seen_of, view_of}
 -- of a place that there is
 abbrev within : ℕ → Worker → View
 within i w =
-    if (place_in w.places i).taken then
-    (if place_in_range (share_of w.words) (place_in w.places i) then seen_of (place_in w.places i) (start_at i w) else nothing_seen bad_call)
+    when (place_in w.places i).taken then
+    (when place_in_range (share_of w.words) (place_in w.places i) then seen_of (place_in w.places i) (start_at i w) else nothing_seen bad_call)
     else nothing_seen free
 
 module _ (i : ℕ) (w : Worker) (v : View) where

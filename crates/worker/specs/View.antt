@@ -3,7 +3,7 @@
 -- docs/SCOPE.md, 'From other languages': "what a place is waiting for (it runs, asks, has ended, or is free), the kind of body that it asks
 -- about, and where its page and its events are". A call tests the worker's own numbers and the place that it is about, as the others do.
 use Rattle.std.specs.Prelude.{ℕ, ◌&&◌, leb, ltb, eqb}
-use Rattle.base.specs.If.{if◌then◌else◌}
+use Rattle.base.specs.If.{when◌then◌else◌}
 use Rattle.base.specs.Number.{bad_call}
 use Rattle.base.specs.State.{asking, first_running}
 use Rattle.events.specs.Share.{share_of}
@@ -30,7 +30,7 @@ has_ended = 3
 
 -- by the state of the scan
 abbrev pub waits_for : ℕ → ℕ
-waits_for name = if leb first_running name then runs else if eqb name asking then asks else has_ended
+waits_for name = when leb first_running name then runs else when eqb name asking then asks else has_ended
 
 -- of a place with no page, or where there is no place
 abbrev pub nothing_seen : ℕ → View
@@ -51,8 +51,8 @@ seen_of p first =
 -- 12 where there is no such place, or where no call gave what is there
 unfoldable pub view_of : ℕ → Worker → View
 view_of i w =
-    if ltb i places && worker_in_range w then
-    (if (place_in w.places i).taken then
-    (if place_in_range (share_of w.words) (place_in w.places i) then seen_of (place_in w.places i) (start_at i w) else nothing_seen bad_call)
+    when ltb i places && worker_in_range w then
+    (when (place_in w.places i).taken then
+    (when place_in_range (share_of w.words) (place_in w.places i) then seen_of (place_in w.places i) (start_at i w) else nothing_seen bad_call)
     else nothing_seen free)
     else nothing_seen bad_call

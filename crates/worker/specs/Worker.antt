@@ -6,7 +6,7 @@
 -- finishes. A verdict call only keeps the verdict; applying it is the first step of that place's next turn. No running place: the answer
 -- is Idle, nothing changes. A finished page keeps its place until collected, which gives its answer; a freed place is used again."
 use Rattle.std.specs.Prelude.{ℕ, ◌-◌, Bool, true, ◌&&◌, List, [], ◌∷◌, leb, ltb, eqb, length, replicate}
-use Rattle.base.specs.If.{if◌then◌else◌}
+use Rattle.base.specs.If.{when◌then◌else◌}
 use Rattle.base.specs.Number as number
 use Rattle.base.specs.declared.Verdict.{Verdict}
 use Rattle.events.specs.Share.{share_of, share_start, share_in, with_share}
@@ -32,7 +32,7 @@ fresh_of q words = record { places = replicate places free_place; last = places 
 
 unfoldable pub start_of : ℕ → ℕ → Left
 start_of q words =
-    if worker_in_range (fresh_of q words) then left (fresh_of q words) (said number.started (longest_in words)) []
+    when worker_in_range (fresh_of q words) then left (fresh_of q words) (said number.started (longest_in words)) []
     else refusing (fresh_of q words) []
 
 -- ---- admission
@@ -45,8 +45,8 @@ placed_by (not_started answer) k at w = left w answer []
 -- "Admission checks 12, 11, 2, 3, 4 in that order."
 unfoldable pub admit_of : List ℕ → ℕ → ℕ → ℕ → ℕ → ℕ → ℕ → Worker → Left
 admit_of bytes at n start construct kind flags w =
-    if numbers_listed construct kind flags && worker_in_range w then
-    (if leb places (lowest_in w.places) then left w (said number.no_place []) []
+    when numbers_listed construct kind flags && worker_in_range w then
+    (when leb places (lowest_in w.places) then left w (said number.no_place []) []
     else placed_by (begin_of bytes at n start construct kind flags (share_of w.words)) (lowest_in w.places) at w)
     else refusing w []
 
@@ -57,14 +57,14 @@ abbrev pub given_by : single.Left → ℕ → Worker → Left
 given_by r i w = left (stored w i (place_of true (place_in w.places i).at r.scan) w.last) r.answer []
 
 unfoldable pub verdict_of : ℕ → Verdict → Worker → Left
-verdict_of i v w = if holds i w then given_by (give_of (place_in w.places i).scan v) i w else refusing w []
+verdict_of i v w = when holds i w then given_by (give_of (place_in w.places i).scan v) i w else refusing w []
 
 -- ---- collecting
 
 -- the answer of a finished page, whose place is free again
 unfoldable pub collect_call : ℕ → Worker → Left
 collect_call i w =
-    if holds i w && ended (place_in w.places i) then left (stored w i free_place w.last) (answer_of (place_in w.places i).scan) []
+    when holds i w && ended (place_in w.places i) then left (stored w i free_place w.last) (answer_of (place_in w.places i).scan) []
     else refusing w []
 
 -- ---- a turn
@@ -93,14 +93,14 @@ ready p lent n = lies_in p lent && place_in_range n p
 
 unfoldable pub turn_at : ℕ → List ℕ → Worker → List ℕ → Left
 turn_at k bytes w events =
-    if leb places k then left w (said number.idle []) events
-    else if ready (place_in w.places k) (length bytes) (share_of w.words) then served_at k bytes w events
+    when leb places k then left w (said number.idle []) events
+    else when ready (place_in w.places k) (length bytes) (share_of w.words) then served_at k bytes w events
     else refusing w events
 
 -- a 12 changes nothing, and does not move the ring
 unfoldable pub turn_of : List ℕ → Worker → List ℕ → Left
 turn_of bytes w events =
-    if eqb (length events) w.words && worker_in_range w then turn_at (next_in w.places w.last) bytes w events
+    when eqb (length events) w.words && worker_in_range w then turn_at (next_in w.places w.last) bytes w events
     else refusing w events
 
 -- ---- the body of a place
@@ -115,23 +115,23 @@ read_by c w = left w c.answer c.scratch
 -- the single scan's own answer about its body; the worker stays as it is
 unfoldable pub body_call : List ℕ → ℕ → Worker → List ℕ → Left
 body_call bytes i w scratch =
-    if holds_page i (length bytes) w then read_by (collect_of (page_in (place_in w.places i) bytes) (place_in w.places i).scan scratch) w
+    when holds_page i (length bytes) w then read_by (collect_of (page_in (place_in w.places i) bytes) (place_in w.places i).scan scratch) w
     else refusing w scratch
 
 -- ---- what a place has in lent memory
 
 -- the page of place i; nothing, where it has none
 unfoldable pub page_at : List ℕ → ℕ → Worker → List ℕ
-page_at bytes i w = if holds_page i (length bytes) w then page_in (place_in w.places i) bytes else []
+page_at bytes i w = when holds_page i (length bytes) w then page_in (place_in w.places i) bytes else []
 
 -- where the share of place i begins in the event buffer; 0, where there is no such place
 unfoldable pub start_at : ℕ → Worker → ℕ
-start_at i w = if ltb i places then share_start (share_of w.words) i else 0
+start_at i w = when ltb i places then share_start (share_of w.words) i else 0
 
 -- the share of place i; nothing, where there is no such place, or of a buffer of another length
 unfoldable pub share_at : List ℕ → ℕ → Worker → List ℕ
-share_at events i w = if ltb i places && eqb (length events) w.words then share_in (share_of w.words) i events else []
+share_at events i w = when ltb i places && eqb (length events) w.words then share_in (share_of w.words) i events else []
 
 -- the words of the events that the page at place i has written; nothing, where it has none
 unfoldable pub events_at : List ℕ → ℕ → Worker → List ℕ
-events_at events i w = if holds i w then front_of (share_at events i w) (place_in w.places i).scan.used else []
+events_at events i w = when holds i w then front_of (share_at events i w) (place_in w.places i).scan.used else []

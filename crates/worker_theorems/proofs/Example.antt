@@ -6,7 +6,7 @@ use mathlib.Core.Path.{◌≡◌, refl}
 use mathlib.Core.Bool.{Bool, true, not, ◌||◌}
 use mathlib.Core.List.{List, [], ◌∷◌}
 use lib.ListN.{length, replicate}
-use Rattle.base.specs.If.{if◌then◌else◌, among}
+use Rattle.base.specs.If.{when◌then◌else◌, among}
 use Rattle.base.specs.Range.{within}
 use Rattle.base.specs.Table.{find}
 use Rattle.base.specs.Number as number
@@ -162,7 +162,7 @@ unfolding
     column_of
     lines_in_range
     line_in_range
-    if◌then◌else◌
+    when◌then◌else◌
 the_first_page = (refl, refl, refl)
 
 -- ---- what demand 3 supposes
@@ -243,6 +243,6 @@ unfolding
     column_of
     lines_in_range
     line_in_range
-    if◌then◌else◌
+    when◌then◌else◌
 fair =
     let page = text_of bytes first in (λ e. lent_by page bytes s₁ refl refl, tt, (tt, tt, (λ e. absurd (omega (arith, e)), tt, (λ e. lent_by page bytes s₃ refl refl, tt, (λ e. lent_by page bytes s₄ refl refl, tt, (λ e. lent_by page bytes s₅ refl refl, tt, (λ e. lent_by page bytes s₆ refl refl, tt, (tt, tt, (λ e. lent_by page grown s₈ refl refl, tt, (λ e. lent_by page grown s₉ refl refl, tt, tt))))))))))

@@ -12,7 +12,7 @@ use lib.ListN.{length, set, length-append}
 use lib.Seq.{get_or-set_same, get_or-set_other}
 use lib.Dec.{leb, eqb}
 use borrow.Author.Tests.{eq-eqb, ne_eqb, eqb-true, eqb-false, le-leb, lt-leb, leb-true, le-ltb, lt-ltb, ltb-true, ltb-false}
-use Rattle.base.specs.If.{if◌then◌else◌}
+use Rattle.base.specs.If.{when◌then◌else◌}
 use Rattle.base.proofs.Choice.{if_is, if_yes, case, both, and_yes, and_no'}
 use Rattle.base.specs.Number as number
 use Rattle.base.specs.State.{asking, rests}
@@ -184,8 +184,8 @@ module _ (len q : ℕ) (page : List ℕ) (pg : Page) (i : ℕ) (hi : i < 16) whe
 
   -- a turn of another place k, which is nearer; or of none
   passed : (vs : List Verdict) (m l k : ℕ) (p : Place) (words : List ℕ) → (running p ≡ true → gap (after k) i + 1 ≤ gap (after l) i) → At vs m l p words
-      → At (vs ++ []) (m + (if running p && true then 1 else 0)) k p words
-  unfolding if◌then◌else◌
+      → At (vs ++ []) (m + (when running p && true then 1 else 0)) k p words
+  unfolding when◌then◌else◌
   passed vs m l k p words near h =
       case _ (rests (state_of p))
       (λ e.
@@ -258,7 +258,7 @@ module _ (len q : ℕ) (page : List ℕ) (pg : Page) (i : ℕ) (hi : i < 16) whe
         (λ k n hk t e. kept vs m _ _ _ (other vs m s k (place_of true p.at n) (λ (x : i ≡ k). true≢false (sym h.taken ∙ ap (λ (j : ℕ). (place_at j s).taken) x ∙ t)) h))
 
     after_verdict : (k : ℕ) (v : Verdict) → Here (vs ++ verdict_to i (verdict k v) (answer (verdict k v) s)) (m + 0) (next (verdict k v) s)
-    unfolding if◌then◌else◌
+    unfolding when◌then◌else◌
     after_verdict k v =
         view_verdict (λ (d : Left). At (vs ++ verdict_to i (verdict k v) d.answer) (m + 0) d.worker.last (place_in d.worker.places i) (share_of_i d.worker s.words)) w k v
         (kept vs m _ _ _ h)
@@ -291,11 +291,11 @@ module _ (len q : ℕ) (page : List ℕ) (pg : Page) (i : ℕ) (hi : i < 16) whe
     abbrev Turned : Left → Type 0
     Turned d =
         At (vs ++ []) (m + turn_while (place_at i s) (a_turn [] []) d.answer) d.worker.last (place_in d.worker.places i)
-        (share_of_i d.worker (if eqb d.answer.number number.served then d.memory else s.words))
+        (share_of_i d.worker (when eqb d.answer.number number.served then d.memory else s.words))
 
     -- one over a buffer of another length is refused, and not counted
     not_served : (lent : List ℕ) → Turned (refusing w lent)
-    unfolding if◌then◌else◌
+    unfolding when◌then◌else◌
     not_served lent = rw (and_no' (running (place_at i s)) false refl) (kept vs m _ _ _ h)
 
     -- where it runs, a turn goes to a place that is not farther than it
@@ -308,7 +308,7 @@ module _ (len q : ℕ) (page : List ℕ) (pg : Page) (i : ℕ) (hi : i < 16) whe
       here = in_words vs m w.last (place_at i s) _ _ (sym (reads lent el) ∙ L.stand ∙ reads s.words full_length) h
 
       idles : 16 ≤ next_in w.places w.last → Turned (left w (said number.idle []) lent)
-      unfolding if◌then◌else◌
+      unfolding when◌then◌else◌
       idles none = passed vs m w.last w.last (place_at i s) _ (λ r. absurd (omega (arith, none, (found r).small))) h
 
       abbrev size : ℕ
@@ -336,18 +336,18 @@ module _ (len q : ℕ) (page : List ℕ) (pg : Page) (i : ℕ) (hi : i < 16) whe
           b
 
       turn_other : (k : ℕ) → k ≡ next_in w.places w.last → k < 16 → i ≢ k
-          → At (vs ++ []) (m + (if running (place_at i s) && true then 1 else 0)) k (place_in (set w.places k (ran_place k)) i) (share_in size i (with_share lent size k (ran_words k)))
+          → At (vs ++ []) (m + (when running (place_at i s) && true then 1 else 0)) k (place_in (set w.places k (ran_place k)) i) (share_in size i (with_share lent size k (ran_words k)))
       turn_other k e hk ne =
           let l = w.last in
           let near : running (place_at i s) ≡ true → gap (after k) i + 1 ≤ gap (after l) i =
           λ r. gap_nearer (after l) k i (after_small l) hk hi (λ x. ne (sym x)) (subst (λ (j : ℕ). gap (after l) j ≤ gap (after l) i) (sym e) (found r).first) in
-          subst₂ (λ (x : Place) (y : List ℕ). At (vs ++ []) (m + (if running (place_at i s) && true then 1 else 0)) k x y)
+          subst₂ (λ (x : Place) (y : List ℕ). At (vs ++ []) (m + (when running (place_at i s) && true then 1 else 0)) k x y)
           (sym (get_or-set_other w.places k i (ran_place k) beyond ne))
           (sym (share_other lent size k (ran_words k) (share_fits w lent el k hk) (ran_long k hk) i ne))
           (passed vs m l k (place_at i s) (share_in size i lent) near here)
 
       serves : (k : ℕ) → k ≡ next_in w.places w.last → k < 16 → running (place_at k s) ≡ true → Turned (served len q w g.ranged bytes lent el k)
-      unfolding if◌then◌else◌
+      unfolding when◌then◌else◌
       serves k e hk run =
           by_cases (ℕ_discrete i k)
           (λ (x : i ≡ k).

@@ -10,7 +10,7 @@ use lib.ListN.{length, set, length-set, get_or-replicate}
 use lib.Seq.{get_or-set_same, get_or-set_other}
 use lib.Dec.{ltb, leb, eqb}
 use borrow.Author.Tests.{eq-eqb, le-leb, lt-ltb, ltb-true, leb-true, eqb-true}
-use Rattle.base.specs.If.{if◌then◌else◌}
+use Rattle.base.specs.If.{when◌then◌else◌}
 use Rattle.base.proofs.Choice.{if_is, case, and_yes, both, or_yes, or_yes', or_cases}
 use Rattle.base.specs.declared.Verdict.{Verdict}
 use Rattle.events.specs.Share.{share_of}
@@ -128,7 +128,7 @@ module _ (len q : ℕ) (w : Worker) (r : Ranged len q w) where
 
   -- a scan that heard a verdict is in range, over the same share
   given_in_range : (n : ℕ) (p : Place) (v : Verdict) → givable p.scan v ≡ true → place_in_range n p ≡ true → place_in_range n (place_of true p.at (given_scan p.scan v)) ≡ true
-  unfolding give_of given_scan if◌then◌else◌
+  unfolding give_of given_scan when◌then◌else◌
   given_in_range n p v g e =
       let a = range_parts n p e in
       range_by n (place_of true p.at (given_scan p.scan v)) a.0 (rw g at (give_gives_in_range p.scan v a.1))
@@ -149,7 +149,7 @@ module _ (len q : ℕ) (w : Worker) (r : Ranged len q w) where
 
   -- a run keeps the job, also where it is refused
   run_job : (page : List ℕ) (k : ℕ) (s : Scan) (words : List ℕ) → (run_of page k s words).scan.tokenizer.job ≡ s.tokenizer.job
-  unfolding run_of if◌then◌else◌
+  unfolding run_of when◌then◌else◌
   run_job page k s words = case _ (runnable s (length page) (length words) k) (λ e. rw e (job_kept page k s)) (λ e. rw e)
 
   after_turn : (bytes lent : List ℕ) → Ranged len q (call_of (a_turn bytes lent) w).worker
@@ -192,7 +192,7 @@ fresh_ranged q words e =
 
 -- a start that is not refused gives the fresh worker
 pub started_is : (q words : ℕ) → (start_of q words).answer.number ≡ 34 → ((start_of q words).worker ≡ fresh_of q words) × (worker_in_range (fresh_of q words) ≡ true)
-unfolding start_of if◌then◌else◌
+unfolding start_of when◌then◌else◌
 started_is q words = case _ (worker_in_range (fresh_of q words)) (λ e. rw e (λ f. (refl, refl))) (λ e. rw e (λ f. absurd (omega (arith, f))))
 
 pub started_ranged : (q words : ℕ) → (start_of q words).answer.number ≡ 34 → Ranged words q (start_of q words).worker

@@ -11,7 +11,7 @@ use lib.ListN.{length, get_or, set}
 use lib.Seq.{get_or-set_same, get_or-set_other}
 use lib.Dec.{leb, ltb, eqb}
 use borrow.Author.Tests.{eqb-false, leb-true, leb-false, ltb-true, ltb-false}
-use Rattle.base.specs.If.{if◌then◌else◌}
+use Rattle.base.specs.If.{when◌then◌else◌}
 use Rattle.base.proofs.Choice.{if_is, case, both}
 use Rattle.base.specs.Number as number
 use Rattle.base.specs.Page.{page_limit}
@@ -162,12 +162,12 @@ sixteen_times_the_words_are_enough h i w r says fit =
 
 -- what the start says
 says_it : (q words : ℕ) (values : List ℕ) → (start_of q words).answer ≡ said number.started values → longest_in words ≡ values
-unfolding start_of if◌then◌else◌
+unfolding start_of when◌then◌else◌
 says_it q words values e =
     case _ (worker_in_range (fresh_of q words)) (λ r. ap (λ (a : Said). a.values) (rw r at e)) (λ r. let x : number.bad_call ≡ number.started = ap (λ (a : Said). a.number) (rw r at e) in absurd (omega (arith, x)))
 
 longest_is : (room n : ℕ) → longest_of room ≡ n ∷ [] → (n ≤ page_limit) × (events_enough n ≤ room) × ((page_limit < n + 1) ⊎ (room < events_enough (n + 1)))
-unfolding longest_of if◌then◌else◌
+unfolding longest_of when◌then◌else◌
 longest_is room n e =
     case _ (ltb room (events_enough 0))
     (λ f. let x : 0 ≡ 1 = ap length (rw f at e) in absurd (omega (arith, x)))
@@ -180,7 +180,7 @@ longest_is room n e =
     (omega (arith, x, m, t), omega (arith, x, m), inr (omega (arith, x, m)))))
 
 none_is : (room : ℕ) → longest_of room ≡ [] → room < events_enough 0
-unfolding longest_of if◌then◌else◌
+unfolding longest_of when◌then◌else◌
 none_is room e =
     case _ (ltb room (events_enough 0)) (λ f. ltb-true room (events_enough 0) f)
     (λ f. case _ (leb (events_enough page_limit) room)

@@ -9,7 +9,7 @@ use lib.ListN.{length, drop, length-append}
 use lib.Seq.{take_at}
 use lib.Dec.{eqb}
 use borrow.Author.Tests.{lt-ltb, eq-eqb}
-use Rattle.base.specs.If.{if◌then◌else◌}
+use Rattle.base.specs.If.{when◌then◌else◌}
 use Rattle.base.proofs.Choice.{if_yes, case}
 use Rattle.base.specs.State.{asking, rests}
 use Rattle.base.specs.declared.Verdict.{Verdict}
@@ -36,7 +36,7 @@ pub record Counted (page : List ℕ) (k : ℕ) (s : Scan) : Type 0 where
   pub all : rests (run_scan page k s).tokenizer.state ≡ false → (run_scan page k s).steps ≡ s.steps + k
 
 pub counted : (page : List ℕ) (k : ℕ) (s : Scan) → Within page s → Counted page k s
-unfolding run_scan if◌then◌else◌
+unfolding run_scan when◌then◌else◌
 counted page zero s w = record { least = omega arith; most = omega arith; all = λ e. omega arith }
 counted page (suc k) s w =
     case _ (rests s.tokenizer.state)

@@ -11,7 +11,7 @@ use lib.ListN.{length, drop, length-drop}
 use lib.Seq.{length-take-le}
 use lib.Dec.{leb, eqb}
 use borrow.Author.Tests.{eq-eqb, lt-ltb}
-use Rattle.base.specs.If.{if◌then◌else◌}
+use Rattle.base.specs.If.{when◌then◌else◌}
 use Rattle.base.proofs.Choice.{case, and_yes, both}
 use Rattle.base.specs.Number as number
 use Rattle.base.specs.State.{first_running}
@@ -37,7 +37,7 @@ use Rattle.worker_theorems.proofs.Views.{view_turn}
 -- the run of a scan that is ready is taken
 takes : (page : List ℕ) (n : ℕ) (s : Scan) (words : List ℕ) → 1 ≤ n → leb first_running s.tokenizer.state ≡ true → length page ≡ s.tokenizer.job.length → length words ≡ s.tokenizer.job.words → scan_in_range s ≡ true
     → ((run_of page n s words).scan ≡ run_scan page n s) × ((run_of page n s words).words ≡ run_words page n s words)
-unfolding run_of runnable if◌then◌else◌
+unfolding run_of runnable when◌then◌else◌
 takes page n s words h r lp lw g =
     let t : runnable s (length page) (length words) n ≡ true =
     and_yes _ _ (lt-ltb 0 n h) (and_yes _ _ r (and_yes _ _ (eq-eqb (length page) _ lp) (and_yes _ _ (eq-eqb (length words) _ lw) g))) in
@@ -45,7 +45,7 @@ takes page n s words h r lp lw g =
 
 -- a run leaves the words as long as they were, also where it is refused
 run_long : (page : List ℕ) (n : ℕ) (s : Scan) (words : List ℕ) → length (run_of page n s words).words ≡ length words
-unfolding run_of if◌then◌else◌
+unfolding run_of when◌then◌else◌
 run_long page n s words = case _ (runnable s (length page) (length words) n) (λ e. rw e (written_long words s.used (run_events page n s))) (λ e. rw e)
 
 module _ (w : Worker) (lent : List ℕ) (el : length lent ≡ w.words) where

@@ -8,7 +8,7 @@ use lib.ListN.{length, get_or, set}
 use lib.Seq.{set-get_or}
 use lib.Dec.{eqb}
 use borrow.Author.Tests.{leb-false, eqb-true}
-use Rattle.base.specs.If.{if◌then◌else◌, among}
+use Rattle.base.specs.If.{when◌then◌else◌, among}
 use Rattle.base.proofs.Choice.{if_is, case, both, not_yes}
 use Rattle.base.specs.Number as number
 use Rattle.base.specs.declared.Verdict.{Verdict}
@@ -64,7 +64,7 @@ module _ (P : Left → Type 0) (w : Worker) where
   heard : (i : ℕ) (v : Verdict) → (place_in w.places i).taken ≡ true → P (refusing w [])
       → (givable (place_in w.places i).scan v ≡ true → P (left (stored w i (place_of true (place_in w.places i).at (given_scan (place_in w.places i).scan v)) w.last) (said number.kept []) []))
       → P (given_by (give_of (place_in w.places i).scan v) i w)
-  unfolding give_of if◌then◌else◌
+  unfolding give_of when◌then◌else◌
   heard i v t same given =
       case _ (givable (place_in w.places i).scan v) (λ g. rw g (given g)) (λ g. rw g (subst (λ (x : Worker). P (refusing x [])) (sym (stored_same i w t)) same))
 

@@ -1,6 +1,6 @@
 -- The calls on a worker, one after the other. Each is lent its own bytes, and a turn its own event buffer.
 use Rattle.std.specs.Prelude.{ℕ, List, [], ◌∷◌, eqb}
-use Rattle.base.specs.If.{if◌then◌else◌}
+use Rattle.base.specs.If.{when◌then◌else◌}
 use Rattle.base.specs.Number as number
 use Rattle.base.specs.declared.Verdict.{Verdict}
 use Rattle.events.specs.declared.Event.{Event}
@@ -60,7 +60,7 @@ answer x s = (call_of x s.worker).answer
 abbrev pub words_after : Ask → Left → List ℕ → List ℕ
 words_after (admit bytes p) l words = words
 words_after (verdict i v) l words = words
-words_after (a_turn bytes lent) l words = if eqb l.answer.number number.served then l.memory else words
+words_after (a_turn bytes lent) l words = when eqb l.answer.number number.served then l.memory else words
 words_after (collect i) l words = words
 words_after (read_body bytes i scratch) l words = words
 

@@ -1,7 +1,7 @@
 -- Demand 3, for an auditor to read: no page holds up another. Nothing here but the definitions that the contracts of the calls cite, the
 -- definition of a single scan run by itself, and what is counted. The theorem is `no_page_holds_up_another`.
 use Rattle.std.specs.Prelude.{ℕ, ◌+◌, ◌-◌, ◌*◌, ◌/◌, ◌<◌, ◌≡◌, ◌⊎◌, Bool, true, false, not, ◌&&◌, List, [], ◌∷◌, ◌++◌, eqb, length}
-use Rattle.base.specs.If.{if◌then◌else◌}
+use Rattle.base.specs.If.{when◌then◌else◌}
 use Rattle.base.specs.Number as number
 use Rattle.base.specs.State as state
 use Rattle.base.specs.declared.Verdict.{Verdict}
@@ -26,7 +26,7 @@ is_refused a = eqb a.number number.bad_call
 -- the verdict that a call gives to place i: none, unless it is kept
 abbrev pub verdict_to : ℕ → Ask → Said → List Verdict
 verdict_to i (admit bytes p) a = []
-verdict_to i (verdict k v) a = if eqb a.number number.kept && eqb k i then v ∷ [] else []
+verdict_to i (verdict k v) a = when eqb a.number number.kept && eqb k i then v ∷ [] else []
 verdict_to i (a_turn bytes lent) a = []
 verdict_to i (collect k) a = []
 verdict_to i (read_body bytes k scratch) a = []
@@ -39,7 +39,7 @@ verdicts_to i (x ∷ xs) s = verdict_to i x (answer x s) ++ verdicts_to i xs (ne
 abbrev pub turn_while : Place → Ask → Said → ℕ
 turn_while p (admit bytes pg) a = 0
 turn_while p (verdict k v) a = 0
-turn_while p (a_turn bytes lent) a = if running p && not (is_refused a) then 1 else 0
+turn_while p (a_turn bytes lent) a = when running p && not (is_refused a) then 1 else 0
 turn_while p (collect k) a = 0
 turn_while p (read_body bytes k scratch) a = 0
 

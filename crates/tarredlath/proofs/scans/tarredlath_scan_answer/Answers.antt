@@ -1,6 +1,6 @@
 use mathlib.Core.Path.{◌≡◌, refl, sym, ap, ◌∙◌}
 use Rattle.base.proofs.Choice.{if_yes, if_no}
-use Rattle.base.specs.If.{if◌then◌else◌}
+use Rattle.base.specs.If.{when◌then◌else◌}
 use Rattle.base.specs.Table.{find}
 use Rattle.batch.specs.Record.{value_in}
 use Rattle.scan.specs.Answer.{refused}
@@ -11,7 +11,7 @@ use Rattle.tarredlath.proofs.scans.tarredlath_scan_answer.Goals as goal
 
 -- 12 carries nothing
 refused-is : bare_of 12 ≡ answer_numbers refused
-unfolding answer_numbers carried value_in find if◌then◌else◌
+unfolding answer_numbers carried value_in find when◌then◌else◌
 refused-is = refl
 
 pub returns-then-scan_listed : goal.returns-then-scan_listed
