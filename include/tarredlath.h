@@ -1,6 +1,6 @@
 /*
  * Tarredlath: finds an MDX expression, tag or ESM block at a place of a page. C99, usable from C++; the library is
- * libtarredlath.a, for x86-64 Linux, which `rt staticlib tarredlath` writes to target/staticlib.
+ * libtarredlath.a, for x86-64 Linux, which `./build-library` writes to target/staticlib.
  *
  * A scan starts at a byte of a page and makes steps. It ends with an answer, or it pauses when its allowance of steps is
  * spent, or, with a verdict source, it asks: then the caller has its JavaScript parser judge the body, gives the verdict,

@@ -1,6 +1,6 @@
 # Reads Rattle sources, and writes what of them a C program meets, a line each, as header-interface.awk does of the header:
 #
-#     function NAME RESULT (TYPE NAME, ..)         each `#[no_mangle] pub extern "C" fn`
+#     function NAME RESULT (TYPE NAME, ..)         each `#[unsafe(no_mangle)] pub extern "C" fn`
 #     field STRUCT NUMBER TYPE NAME                each field of a `#[repr(C)]` struct, by the C names of both
 #
 # With -v asserts=FILE it also writes a C program there that asserts the size of each struct and where its fields are, by the rules
@@ -71,7 +71,7 @@ function write_function(text, name, parameters, result, parts, count, i, written
     print "function " trimmed(name) " " (result == "void" ? result : type_in_c(trimmed(result))) " (" written ")"
 }
 
-/^#\[no_mangle\]/ { is_exported = 1; signature = ""; next }
+/^#\[unsafe\(no_mangle\)\]/ { is_exported = 1; signature = ""; next }
 
 # A signature goes up to its contract or its body.
 is_exported {

@@ -20,7 +20,7 @@ fn link() -> Result<(), String> {
     println!("cargo:rerun-if-changed={}", archive.display());
     if !archive.is_file() {
         return Err(format!(
-            "{} is not there: run `rt staticlib tarredlath` in the repository's root, \
+            "{} is not there: run `./build-library` in the repository's root, \
              or set {FOLDER_VARIABLE} to its folder",
             archive.display()
         ));

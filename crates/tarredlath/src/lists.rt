@@ -5,12 +5,7 @@ ghost use Rattle.batch.specs.Batch.{batch, batch_of};
 use batch::{Filled, Opening, fill};
 
 // Every record of the list is answered by a single scan over the page, with steps enough, in list order.
-#[unsafe(no_mangle)]
-pub extern "C" fn tarredlath_fill(
-    page: &[u8],
-    openings: &mut [Opening],
-    events: &mut [u32],
-) -> Filled
+pub fn tarredlath_fill(page: &[u8], openings: &mut [Opening], events: &mut [u32]) -> Filled
     ensures { batch result openings.new events.new ≡ batch_of page.now openings.old events.old }
 {
     fill(page, openings, events)

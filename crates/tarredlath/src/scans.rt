@@ -12,16 +12,14 @@ use scan::beginning::{no_scan, single};
 use scan::{Began, Ran, Scan};
 
 // The words of an event buffer that no scan of a page of so many bytes fills.
-#[unsafe(no_mangle)]
-pub extern "C" fn tarredlath_words_enough(length: usize) -> EnoughNumbers
+pub fn tarredlath_words_enough(length: usize) -> EnoughNumbers
     ensures { result ≡ enough_face length }
 {
     enough_numbers(words_enough(length))
 }
 
 // A single scan in one call.
-#[unsafe(no_mangle)]
-pub extern "C" fn tarredlath_scan_once(
+pub fn tarredlath_scan_once(
     bytes: &[u8],
     at: usize,
     length: usize,
@@ -40,8 +38,7 @@ pub extern "C" fn tarredlath_scan_once(
 }
 
 // A new scan, which is paused at its start.
-#[unsafe(no_mangle)]
-pub extern "C" fn tarredlath_scan_new(
+pub fn tarredlath_scan_new(
     bytes: &[u8],
     at: usize,
     length: usize,
@@ -67,8 +64,7 @@ pub extern "C" fn tarredlath_scan_new(
 }
 
 // At most `allowance` steps of a scan.
-#[unsafe(no_mangle)]
-pub extern "C" fn tarredlath_scan_run(
+pub fn tarredlath_scan_run(
     scan: ScanNumbers,
     page: &[u8],
     events: &mut [u32],
@@ -84,8 +80,7 @@ pub extern "C" fn tarredlath_scan_run(
 }
 
 // The verdict that a scan asked for.
-#[unsafe(no_mangle)]
-pub extern "C" fn tarredlath_scan_give(
+pub fn tarredlath_scan_give(
     scan: ScanNumbers,
     verdict: u8,
     number: u32,
@@ -105,8 +100,7 @@ pub extern "C" fn tarredlath_scan_give(
 }
 
 // The answer of a scan as it stands.
-#[unsafe(no_mangle)]
-pub extern "C" fn tarredlath_scan_answer(scan: ScanNumbers) -> AnswerNumbers
+pub fn tarredlath_scan_answer(scan: ScanNumbers) -> AnswerNumbers
     ensures { result ≡ answer_face scan }
 {
     if scan_listed(scan) {
@@ -117,12 +111,7 @@ pub extern "C" fn tarredlath_scan_answer(scan: ScanNumbers) -> AnswerNumbers
 }
 
 // Where the body is that a scan asks about, and its kind.
-#[unsafe(no_mangle)]
-pub extern "C" fn tarredlath_scan_body(
-    scan: ScanNumbers,
-    page: &[u8],
-    scratch: &mut [u8],
-) -> BodyNumbers
+pub fn tarredlath_scan_body(scan: ScanNumbers, page: &[u8], scratch: &mut [u8]) -> BodyNumbers
     ensures { read result scratch.new ≡ body_face page.now scan scratch.old }
 {
     if scan_listed(scan) {

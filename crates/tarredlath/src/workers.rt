@@ -11,16 +11,14 @@ use worker::Worker;
 use worker::viewing::{View, nothing_seen};
 
 // A worker with turns of q steps, over an event buffer of so many words.
-#[unsafe(no_mangle)]
-pub extern "C" fn tarredlath_worker_start(q: usize, words: usize) -> StartedNumbers
+pub fn tarredlath_worker_start(q: usize, words: usize) -> StartedNumbers
     ensures { result ≡ start_face q words }
 {
     started_out(Worker::new(q, words))
 }
 
 // A page of the lent bytes is given a place.
-#[unsafe(no_mangle)]
-pub extern "C" fn tarredlath_worker_admit(
+pub fn tarredlath_worker_admit(
     worker: WorkerNumbers,
     bytes: &[u8],
     at: usize,
@@ -40,8 +38,7 @@ pub extern "C" fn tarredlath_worker_admit(
 }
 
 // One turn.
-#[unsafe(no_mangle)]
-pub extern "C" fn tarredlath_worker_turn(
+pub fn tarredlath_worker_turn(
     worker: WorkerNumbers,
     bytes: &[u8],
     events: &mut [u32],
@@ -56,8 +53,7 @@ pub extern "C" fn tarredlath_worker_turn(
 }
 
 // The verdict that a place asked for.
-#[unsafe(no_mangle)]
-pub extern "C" fn tarredlath_worker_verdict(
+pub fn tarredlath_worker_verdict(
     worker: WorkerNumbers,
     place: usize,
     verdict: u8,
@@ -78,8 +74,7 @@ pub extern "C" fn tarredlath_worker_verdict(
 }
 
 // The answer of a finished page, whose place is free again.
-#[unsafe(no_mangle)]
-pub extern "C" fn tarredlath_worker_collect(worker: WorkerNumbers, place: usize) -> CalledNumbers
+pub fn tarredlath_worker_collect(worker: WorkerNumbers, place: usize) -> CalledNumbers
     ensures { result ≡ collect_face place worker }
 {
     if worker_listed(worker) {
@@ -90,8 +85,7 @@ pub extern "C" fn tarredlath_worker_collect(worker: WorkerNumbers, place: usize)
 }
 
 // Where the body is that a place asks about, and its kind.
-#[unsafe(no_mangle)]
-pub extern "C" fn tarredlath_worker_body(
+pub fn tarredlath_worker_body(
     worker: WorkerNumbers,
     bytes: &[u8],
     place: usize,
@@ -110,8 +104,7 @@ pub extern "C" fn tarredlath_worker_body(
 }
 
 // What there is of a place.
-#[unsafe(no_mangle)]
-pub extern "C" fn tarredlath_worker_view(worker: WorkerNumbers, place: usize) -> View
+pub fn tarredlath_worker_view(worker: WorkerNumbers, place: usize) -> View
     ensures { result ≡ view_face place worker }
 {
     if worker_listed(worker) {
