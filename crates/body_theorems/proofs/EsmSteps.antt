@@ -25,7 +25,7 @@ use Rattle.base.specs.declared.Effect.TheVariants.{Save, Restore, Last}
 use Rattle.base.specs.declared.Move.{Move}
 use Rattle.base.specs.declared.Verdict.{Verdict}
 use Rattle.base.specs.declared.Verdict.TheVariants.{Fine, Unfinished, Wrong}
-use Rattle.mdx_esm.specs.Esm as esmState
+use Rattle.mdx_esm.specs.Esm as esm_state
 use Rattle.mdx_esm.specs.Word.{is_word}
 use Rattle.tokenizer.specs.Decision.{esm_allowed, esm_fault, esm_states, decision}
 use Rattle.tokenizer.specs.declared.Regs.{Regs}
@@ -118,7 +118,7 @@ module _ (page : List ℕ) (n start at : ℕ) (v : InTab) (g : Regs) (r : Runs) 
             (refl, record { to = omega arith; outside = o; before = record { from = omega (arith, a); cells = rw a (p ∙ sym (part_none page start)) } });
       }
 
-  esm_start_kept : (allowed : Bool) → at ≡ start → r.cells ≡ [] → Then (esmState.start b allowed)
+  esm_start_kept : (allowed : Bool) → at ≡ start → r.cells ≡ [] → Then (esm_state.start b allowed)
   esm_start_kept allowed a p = pick (λ e. first_letter a p (letter_there b (both allowed _ e).1)) (λ e. block_to_end page start (still_out v o _) refl)
 
   -- a byte of the run is passed
@@ -133,7 +133,7 @@ module _ (page : List ℕ) (n start at : ℕ) (v : InTab) (g : Regs) (r : Runs) 
   unfolding block_phase_of find when◌then◌else◌
   to_inside h e = record { kept = rw (lt-ltb at n (inside_page e)) (refl, longer h) }
 
-  esm_word_kept : (whole : Bool) → Running page start at r → Then (esmState.word b whole)
+  esm_word_kept : (whole : Bool) → Running page start at r → Then (esm_state.word b whole)
   esm_word_kept whole h =
       pick (λ e. to_word h (word_there b e)) (λ e. pick (λ f. to_inside h (byte_there b space (both whole _ f).1 refl)) (λ f. block_to_end page start (still_out v o _) refl))
 
@@ -155,7 +155,7 @@ module _ (page : List ℕ) (n start at : ℕ) (v : InTab) (g : Regs) (r : Runs) 
         );
       }
 
-  esm_inside_kept : Running page start at r → Then (esmState.inside b)
+  esm_inside_kept : Running page start at r → Then (esm_state.inside b)
   esm_inside_kept h = pick (λ e. line_over h) (λ e. to_inside h (line_there b e))
 
   at_end_lem : Whole page start at r → Then (retry state.mdx_esm_at_end Nothing)
@@ -173,10 +173,10 @@ module _ (page : List ℕ) (n start at : ℕ) (v : InTab) (g : Regs) (r : Runs) 
         kept = rw (lt-ltb at n (inside_page e)) (refl, record { to = omega arith; outside = o; before = record { from = w.from; cells = w.cells } });
       }
 
-  esm_line_kept : Whole page start at r → Then (esmState.line_start b)
+  esm_line_kept : Whole page start at r → Then (esm_state.line_start b)
   esm_line_kept w = pick (λ e. at_end_lem w) (λ e. pick (λ f. look w (byte_there b line_feed f refl)) (λ f. new_line w e))
 
-  esm_continuation_kept : Whole page start at r → at < length page → Then esmState.continuation_start
+  esm_continuation_kept : Whole page start at r → at < length page → Then esm_state.continuation_start
   unfolding block_phase_of find when◌then◌else◌ collect_one among
   esm_continuation_kept w h =
       record {
@@ -208,12 +208,12 @@ module _ (page : List ℕ) (n start at : ℕ) (v : InTab) (g : Regs) (r : Runs) 
   unfolding block_phase_of find when◌then◌else◌
   back_in_line a = record { kept = (refl, a) }
 
-  esm_blank_kept : Looking → Then (esmState.blank_line b)
+  esm_blank_kept : Looking → Then (esm_state.blank_line b)
   esm_blank_kept a = pick (λ e. to_blank a) (λ e. pick (λ f. back_at_end a) (λ f. back_in_line a))
 
   -- ---- the question
 
-  esm_end_kept : Whole page start at r → Then esmState.at_end
+  esm_end_kept : Whole page start at r → Then esm_state.at_end
   unfolding block_phase_of find when◌then◌else◌
   esm_end_kept w = record { kept = (o, w) }
 
@@ -221,7 +221,7 @@ module _ (page : List ℕ) (n start at : ℕ) (v : InTab) (g : Regs) (r : Runs) 
   unfolding block_phase_of find when◌then◌else◌
   in_next_line w e number = record { kept = (o, (w, place_in_lem page at e)) }
 
-  esm_verdict_kept : (v : Verdict) (after : Bool) (place : ℕ) → Whole page start at r → Then (esmState.verdict v b after place)
+  esm_verdict_kept : (v : Verdict) (after : Bool) (place : ℕ) → Whole page start at r → Then (esm_state.verdict v b after place)
   esm_verdict_kept Fine after place w = pick (λ e. block_to_end page start (still_out v o _) refl) (λ e. block_to_end page start (still_out v o _) refl)
   esm_verdict_kept (Unfinished number) after place w = pick (λ e. block_to_end page start (still_out v o _) refl) (λ e. in_next_line w e number)
   esm_verdict_kept (Wrong number offset) after place w = block_to_end page start (still_out v o _) refl

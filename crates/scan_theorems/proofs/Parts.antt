@@ -1,4 +1,4 @@
--- What `inRange` says of a tokenizer, part by part, as facts that a proof can use; and the way back from the facts to the test.
+-- What `in_range` says of a tokenizer, part by part, as facts that a proof can use; and the way back from the facts to the test.
 use Prim.Native.Nat.{ℕ, ◌≤◌}
 use mathlib.Core.Path.{◌≡◌}
 use mathlib.Core.Bool.{true, false, ◌&&◌}
