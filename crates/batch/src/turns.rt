@@ -112,6 +112,7 @@ fn known_after(run: Run, checked: Checked, start: usize, length: usize) -> Run
 }
 
 // The record is answered: the next one has the room that is left, and full room ends the list.
+#[tactic(auto, using(base::proofs::Choice::picks))]
 fn after(run: Run, opening: Opening) -> Run
     requires { Counts run opening }
     ensures { result ≡ after_of run opening }

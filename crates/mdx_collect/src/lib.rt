@@ -56,6 +56,7 @@ fn seam_of(scan: Scan) -> usize
 //     > | {a
 //     > |   }
 //         ^^ from, to: the prefix before the `}` that asks
+#[tactic(auto, using(crate::proofs::Laws::nothing, crate::proofs::Laws::longer))]
 fn only_prefix(page: &[u8], from: usize, to: usize) -> bool
     ensures { result ≡ only_prefix page.now from to }
 {

@@ -73,6 +73,7 @@ pub fn start(b: u16, token: u8) -> Move
 //
 //     > | a {Math.PI} c
 //            ^
+#[tactic(auto, using(base::proofs::Choice::picks))]
 pub fn before(b: u16, depth: u32, asks: bool, last: u32, token: u8, back: u8) -> Move
     ensures { result ≡ expression.before b depth asks last token back }
 {

@@ -39,6 +39,7 @@ fn point(out: &mut [u8], at: usize, first: &[u8], joint: &[u8], event: Event) ->
 }
 
 // A joint, and how many columns of a tab are passed there; nothing outside a tab.
+#[tactic(auto, using(base::proofs::Choice::picks, crate::proofs::Puts::nothing_put))]
 fn in_tab(out: &mut [u8], at: usize, joint: &[u8], tab: InTab) -> usize
     ensures { outcome result out.new ≡ put_of out.old at (tab_pieces joint.now tab) }
 {

@@ -164,6 +164,7 @@ fn not_begun(answer: Answer) -> Ran
 // A single scan in one call: the page that begins at `at` of the lent bytes and is `length` long is scanned from `start` on, with at most
 // `allowance` steps. 12 comes first, also for an allowance of 0, then 2, 3 and 4. Where it answers Asking or Paused, the scan that is
 // handed back goes on with `give` and `run`.
+#[tactic(auto, using(crate::proofs::Singles::none_allowed))]
 pub fn single(
     bytes: &[u8],
     at: usize,

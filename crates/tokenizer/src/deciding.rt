@@ -55,6 +55,7 @@ fn not_ascii(b: u16) -> bool
 }
 
 // A tag's state that takes ASCII alone: all but the start and the two of a quoted value.
+#[tactic(auto, using(base::proofs::Ranges::is_within, base::proofs::Ranges::below, base::proofs::Ranges::above))]
 fn takes_ascii(name: u8) -> bool
     ensures { result ≡ decision.takes_ascii name }
 {

@@ -36,6 +36,7 @@ impl Worker {
 
     // A page of the lent bytes, to be scanned from `start` on, is given the lowest free place. The numbers and the places are looked at
     // before the page's bytes are: a full worker reads none of them.
+    #[tactic(auto, using(crate::proofs::Laws::admit_full))]
     pub fn admit(
         self,
         bytes: &[u8],

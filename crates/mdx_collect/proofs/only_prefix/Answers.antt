@@ -1,12 +1,6 @@
 use mathlib.Core.Path.{sym, ◌∙◌}
-use Rattle.mdx_collect.proofs.Laws.{nothing, longer, begun, one_blank, two_blanks}
+use Rattle.mdx_collect.proofs.Laws.{begun, one_blank, two_blanks}
 use Rattle.mdx_collect.proofs.only_prefix.Goals as goal
-
-pub returns-then-to-from : goal.returns-then-to-from
-returns-then-to-from c = nothing _ _ _ c.if-to-from.true
-
-pub returns-then-to-from-gt2 : goal.returns-then-to-from-gt2
-returns-then-to-from-gt2 c = longer _ _ _ c.if-to-from-gt2.true
 
 pub returns-then-byte_at-ne-SPACE : goal.returns-then-byte_at-ne-SPACE
 returns-then-byte_at-ne-SPACE c = begun _ _ _ c.if-to-from.false (λ e. c.if-byte_at-ne-SPACE.true (c.byte_at.ensures ∙ e))

@@ -1,13 +1,7 @@
 use native.Mathlib.Omega.{arith}
 use borrow.Author.Rules.{rules}
-use Rattle.scan.proofs.Singles.{none_allowed, begun_lies, single_ran, single_refused}
+use Rattle.scan.proofs.Singles.{begun_lies, single_ran, single_refused}
 use Rattle.scan.proofs.beginning.single.Goals as goal
-
-pub returns-then-allowance-eq0 : goal.returns-then-allowance-eq0
-returns-then-allowance-eq0 c =
-    let a = c.args in
-    let n = c.not_begun.ensures in
-    rw (n.0, n.1) (none_allowed a.bytes.now a.at a.length a.start a.construct a.kind a.flags a.allowance a.events.now c.if-allowance-eq0.true)
 
 -- the page lies inside the lent bytes
 pub overflow_add-end : goal.overflow_add-end

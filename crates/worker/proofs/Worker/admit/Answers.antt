@@ -1,7 +1,7 @@
 use mathlib.Core.Path.{sym, ap, ◌∙◌}
 use Prim.Native.Nat.{ℕ}
 use Rattle.scan.specs.Call.{begin_of}
-use Rattle.worker.proofs.Laws.{admit_unlisted, admit_forged, admit_full, admit_placed}
+use Rattle.worker.proofs.Laws.{admit_unlisted, admit_forged, admit_placed}
 use Rattle.worker.proofs.Worker.admit.Goals as goal
 
 pub returns-then-not-numbers_listed : goal.returns-then-not-numbers_listed
@@ -13,12 +13,6 @@ pub returns-then-not-in_range : goal.returns-then-not-in_range
 returns-then-not-in_range c =
     let a = c.args in
     rw c.refuse-then-not-in_range.ensures (admit_forged a.bytes.now a.at a.length a.start a.construct a.kind a.flags a.self (sym c.in_range.ensures ∙ c.if-not-in_range.true))
-
-pub returns-then-k-ge-PLACES : goal.returns-then-k-ge-PLACES
-returns-then-k-ge-PLACES c =
-    let a = c.args in
-    admit_full a.bytes.now a.at a.length a.start a.construct a.kind a.flags a.self
-    (sym c.numbers_listed.ensures ∙ c.if-not-numbers_listed.false) (sym c.in_range.ensures ∙ c.if-not-in_range.false) c.lowest-k.result c.lowest-k.ensures c.if-k-ge-PLACES.true
 
 pub returns : goal.returns
 returns c =
