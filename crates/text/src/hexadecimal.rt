@@ -17,7 +17,6 @@ pub enum Hex {
 }
 
 // The value of a digit, 0 to 15; NO_DIGIT of any other byte.
-#[tactic(auto, using(base::proofs::Choice::picks, base::proofs::Ranges::is_within, base::proofs::Ranges::below, base::proofs::Ranges::above), unfolding(crate::specs::Hex::hex_value))]
 pub fn hex_value(byte: u8) -> u8
     ensures { result ≡ hex_value byte }
 {
