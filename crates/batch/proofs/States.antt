@@ -11,7 +11,7 @@ use Rattle.batch.specs.declared.turns.Look.{Look}
 use Rattle.batch.specs.declared.turns.Run.{Run}
 use Rattle.batch.specs.declared.turns.Turned.{Turned}
 use Rattle.batch.specs.Batch.{batch, batch_of}
-use Rattle.batch.specs.Inner.{begin_of, look_of, open_of, Turn, turn, turn_of, finished_of, Sound, Ready}
+use Rattle.batch.specs.Inner.{begin_of, look_of, open_of, Turn, turn, turn_of, finished_of, Sound}
 use Rattle.batch.proofs.Loops.{iter, iter_go, iter_stop, look_on, look_step, Work, work, work_on, work_step, none, looked_all, done_all, LookLess, look_less, RunLess, turn_less, done_is}
 use Rattle.batch.proofs.Rooms.{sound_open, sound_turn}
 
@@ -37,9 +37,6 @@ module _ (os : List Opening) where
   }
 
   module _ (l : Look) (s : Looking os l) (less : l.at < l.stop) where
-    pub look_inside : l.at < length os
-    look_inside = let h = s.within in omega arith
-
     abbrev seen : Look
     seen = look_of (get_or os l.at none) l
 
@@ -94,12 +91,6 @@ module _ (page : List ℕ) (os : List Opening) (words : List ℕ) where
 
     abbrev turned : Turn
     turned = turn_of page asked w.words w.run
-
-    pub work_ready : Ready page w.words w.run
-    work_ready = record { left = less; sound = s.sound }
-
-    pub work_inside : w.run.at < length w.openings
-    work_inside = let h = s.within in let e = s.records in omega arith
 
     works : iter work_on (work_step page) (s.k - 1) (work_step page w) ≡ done_all page os words
     works = sym (iter_go work_on (work_step page) s.k w (let h = s.left in omega arith) (lt-ltb w.run.at w.run.stop less)) ∙ s.goal
