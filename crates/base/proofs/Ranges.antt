@@ -28,6 +28,9 @@ within_is low high x e =
     let t = both (leb low x) (leb x high) e in
     (leb-true low x t.0, leb-true x high t.1)
 
+-- a `match` on ranges, for a function's attribute
+pub ruleset ranges = (is_within, below, above)
+
 -- ---- every number of a range
 
 abbrev pub all : (ℕ → Bool) → ℕ → ℕ → Bool

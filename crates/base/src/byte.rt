@@ -56,4 +56,5 @@ pub const FIRST_NOT_ASCII: u16 = 128;
 
 pub const LAST_BYTE: u16 = 255;
 
+// A number, and no None of an Option: the functions of the states take every number, and promise what they do at each (docs/DECISIONS.md, 16).
 pub const END_OF_PAGE: u16 = 256;

@@ -1,4 +1,5 @@
 // The kinds of an event, numbered once in the order in which the modules use the crate's names: expression, tag, ESM.
+// Numbers, and no enum: an event hands its kind to C as a number, and `events::read` takes whatever a word says.
 pub const FLOW_EXPRESSION: u8 = 1;
 
 pub const TEXT_EXPRESSION: u8 = 2;

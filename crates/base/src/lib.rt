@@ -4,7 +4,7 @@
 ghost use Rattle.std.specs.Prelude.{◌≡◌};
 ghost use Rattle.base.specs.Decide as decide;
 ghost use Rattle.base.specs.Page.{byte_at, after_line_feed, in_column_one};
-ghost use Rattle.base.specs.Tab.{columns_of};
+ghost use Rattle.base.specs.Tab.{columns_of, in_tab};
 
 pub mod byte;
 pub mod kind;
@@ -38,6 +38,28 @@ pub enum InTab {
     Past1,
     Past2,
     Past3,
+}
+
+impl InTab {
+    // A place where so many columns are passed: three at the most.
+    #[tactic(auto, using(crate::proofs::Choice::picks))]
+    pub fn past(columns: u8) -> Self
+        ensures { result ≡ in_tab columns }
+    {
+        match columns {
+            0 => InTab::Outside,
+            1 => InTab::Past1,
+            2 => InTab::Past2,
+            _ => InTab::Past3,
+        }
+    }
+
+    // The columns as a number.
+    pub fn columns(self) -> u8
+        ensures { result ≡ columns_of self }
+    {
+        self as u8
+    }
 }
 
 // What a step does to the registers of a scan.
@@ -91,12 +113,7 @@ pub enum Verdict {
 pub fn eat(next: u8, marks: Marks) -> Move
     ensures { result ≡ decide.eat next marks }
 {
-    Move {
-        next,
-        eat: true,
-        marks,
-        effect: Effect::Keep,
-    }
+    eat_with(next, marks, Effect::Keep)
 }
 
 // The same, with an effect on the registers.
@@ -115,12 +132,7 @@ pub fn eat_with(next: u8, marks: Marks, effect: Effect) -> Move
 pub fn retry(next: u8, marks: Marks) -> Move
     ensures { result ≡ decide.retry next marks }
 {
-    Move {
-        next,
-        eat: false,
-        marks,
-        effect: Effect::Keep,
-    }
+    retry_with(next, marks, Effect::Keep)
 }
 
 // The same, with an effect on the registers.
@@ -139,61 +151,33 @@ pub fn retry_with(next: u8, marks: Marks, effect: Effect) -> Move
 pub fn refuse(answer: u8, site: u8, note: u8) -> Move
     ensures { result ≡ decide.refuse answer site note }
 {
-    Move {
-        next: answer,
-        eat: false,
-        marks: Marks::Nothing,
-        effect: Effect::Refuse(site, note),
-    }
-}
-
-// The columns as a number.
-pub fn columns(tab: InTab) -> usize
-    ensures { result ≡ columns_of tab }
-{
-    match tab {
-        InTab::Outside => 0,
-        InTab::Past1 => 1,
-        InTab::Past2 => 2,
-        InTab::Past3 => 3,
-    }
-}
-
-// A byte's number.
-pub fn wide(x: u8) -> u16
-    ensures { result ≡ x }
-{
-    x as u16
+    retry_with(answer, Marks::Nothing, Effect::Refuse(site, note))
 }
 
 // The number of the byte at a place of the page, or END_OF_PAGE past the last byte.
+#[tactic(auto, using(crate::proofs::Choice::picks), unfolding(crate::specs::Page::byte_at))]
 pub fn byte_at(page: &[u8], at: usize) -> u16
     ensures { result ≡ byte_at page.now at }
 {
     if at < page.len() {
-        wide(page[at])
+        u16::from(page[at])
     } else {
         byte::END_OF_PAGE
     }
 }
 
 // Whether the byte before a place is a line feed.
+#[tactic(auto, using(crate::proofs::Choice::picks), unfolding(crate::specs::Page::after_line_feed))]
 pub fn after_line_feed(page: &[u8], at: usize) -> bool
     ensures { result ≡ after_line_feed page.now at }
 {
-    if at == 0 {
-        return false;
-    }
-    let b = byte_at(page, at - 1);
-    b == byte::LINE_FEED
+    0 < at && byte_at(page, at - 1) == byte::LINE_FEED
 }
 
 // Whether a place is in column 1.
+#[tactic(auto, using(crate::proofs::Choice::picks))]
 pub fn in_column_one(page: &[u8], at: usize) -> bool
     ensures { result ≡ in_column_one page.now at }
 {
-    if at == 0 {
-        return true;
-    }
-    after_line_feed(page, at)
+    at == 0 || after_line_feed(page, at)
 }

@@ -1,5 +1,6 @@
 // The states of a scan. Those below FIRST_RUNNING are where it rests: the answers of docs/SCOPE.md by their numbers, and ASKING.
 // The running ones are the Rust's states by name, expression, tag, ESM, and those that apply a verdict.
+// Numbers, and no enum: C hands a state over as one, which `Tokenizer::in_range` may refuse, and an answer is one of them (docs/DECISIONS.md, 17).
 pub const DONE: u8 = 0;
 
 pub const NOK: u8 = 1;

@@ -1,4 +1,3 @@
-pub mod Loops
 pub mod Rooms
-pub mod States
 pub mod Answered
+pub mod Lists

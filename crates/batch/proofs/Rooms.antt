@@ -5,20 +5,20 @@ use native.Mathlib.Nat.{div-mul-le_self}
 use native.Mathlib.Omega.{arith}
 use mathlib.Core.Path.{◌≡◌, refl}
 use mathlib.Core.List.{List}
-use lib.Dec.{ltb, leb, eqb}
+use lib.Dec.{ltb, leb}
 use lib.ListN.{length, take, drop, length-append, length-drop}
 use lib.Seq.{length-take-le}
-use borrow.Author.Tests.{ltb-false}
 use Rattle.base.specs.If.{when◌then◌else◌}
 use Rattle.base.specs.Table.{find}
-use Rattle.base.specs.State as state
 use Rattle.base.specs.State.{first_running}
 use Rattle.base.proofs.Choice.{if_is}
 use Rattle.base.proofs.Tables.{◌&◌, found}
 use Rattle.events.specs.Words.{width, room_in}
 use Rattle.events.proofs.Laws.{written_long}
-use Rattle.page.specs.declared.Checked.{Checked}
-use Rattle.page.specs.declared.Checked.TheVariants as checked
+use Rattle.std.specs.Prelude.{Result, Ok, Err}
+use Rattle.page.specs.declared.Fault.{Fault}
+use Rattle.page.specs.declared.Fault.TheVariants.{TooLong, BadStart, BadText}
+use Rattle.page.specs.declared.line.Line.{Line}
 use Rattle.page.specs.Page.{page_of, page_check}
 use Rattle.tokenizer.specs.declared.Job.{Job}
 use Rattle.scan.specs.declared.Scan.{Scan}
@@ -27,12 +27,9 @@ use Rattle.scan.specs.Scan.{run_scan, run_events}
 use Rattle.scan.specs.Call.{Left, left, job_of, fresh_in, numbers_listed, no_scan, Begun, begun_if, begin_of, runnable, run_of, ran_from, single_of}
 use Rattle.scan.proofs.Kept.{run_room}
 use Rattle.batch.specs.declared.Opening.{Opening}
-use Rattle.batch.specs.declared.turns.Look.{Look}
-use Rattle.batch.specs.declared.turns.Run.{Run}
 use Rattle.batch.specs.Record as field
 use Rattle.batch.specs.Record.{value_in, carried, filled_of}
 use Rattle.batch.specs.Batch.{called, record_of, words_of}
-use Rattle.batch.specs.Inner.{check_for, open_of, known_after, after_of, turn_of, Sound}
 
 -- ---- the events that an answer carries
 
@@ -99,12 +96,12 @@ module _ (bytes : List ℕ) (at n start construct kind flags allowance : ℕ) (w
       record { long = written_long words s.used (run_events page allowance s); few = omega (arith, r, few_events (run_scan page allowance s)) })
       (λ e. keeps_refused s)
 
-  keeps_checked : (c : Checked) → Keeps words (ran_from (begun_if c job) page allowance words)
+  keeps_checked : (c : Result Line Fault) → Keeps words (ran_from (begun_if c job) page allowance words)
   unfolding fresh_in carried value_in find when◌then◌else◌
-  keeps_checked (checked.Good line) = keeps_run (fresh_in line job) refl refl
-  keeps_checked checked.TooLong = keeps_none _ _ refl
-  keeps_checked checked.BadStart = keeps_none _ _ refl
-  keeps_checked (checked.BadText p) = keeps_none _ _ refl
+  keeps_checked (Ok line) = keeps_run (fresh_in line job) refl refl
+  keeps_checked (Err TooLong) = keeps_none _ _ refl
+  keeps_checked (Err BadStart) = keeps_none _ _ refl
+  keeps_checked (Err (BadText p)) = keeps_none _ _ refl
 
   pub single_keeps : Keeps words (single_of bytes at n start construct kind flags allowance words)
   unfolding single_of begin_of
@@ -137,36 +134,3 @@ module _ (page words : List ℕ) (o : Opening) (used : ℕ) (h : used * width �
   events_fit =
       let room : room_in (length rest) * width ≤ length rest = div-mul-le_self (length rest) width in
       omega (arith, h, counted, keeps.few, length-drop (used * width) words, room)
-
--- ---- what the second loop keeps
-
-pub sound_open : (page words : List ℕ) (l : Look) → Sound page words (open_of page l)
-sound_open page words l = record { known = refl; from = omega arith; room = omega arith }
-
--- what is known of the page stays known
-abbrev Known : List ℕ → Run → Type 0
-Known page r = (r.checked ≡ check_for page r.from) × (r.from ≤ length page)
-
-after_known : (page : List ℕ) (r : Run) (o : Opening) → Known page r → Known page (after_of r o)
-after_known page r o h = if_is Run (Known page) (eqb o.answer state.full) _ _ (λ e. h) (λ e. h)
-
-known_known : (page : List ℕ) (r : Run) (start : ℕ) → Known page r → Known page (known_after r (check_for page start) start (length page))
-known_known page r start h = if_is Run (Known page) (ltb (length page) start) _ _ (λ e. h) (λ e. (refl, ltb-false (length page) start e))
-
--- and the events are counted on
-after_used : (page : List ℕ) (r : Run) (start : ℕ) (o : Opening) → (after_of (known_after r (check_for page start) start (length page)) o).used ≡ r.used + o.events
-after_used page r start o =
-    let same : (known_after r (check_for page start) start (length page)).used ≡ r.used =
-    if_is Run (λ (x : Run). x.used ≡ r.used) (ltb (length page) start) _ _ (λ e. refl) (λ e. refl) in
-    if_is Run (λ (x : Run). x.used ≡ r.used + o.events) (eqb o.answer state.full) _ _ (λ e. omega (arith, same)) (λ e. omega (arith, same))
-
-pub sound_turn : (page words : List ℕ) (o : Opening) (r : Run) → Sound page words r → Sound page (turn_of page o words r).words (turn_of page o words r).turned.run
-unfolding turn_of
-sound_turn page words o r h =
-    let f = record_of page o r.used words in
-    let k = after_known page (known_after r (check_for page o.start) o.start (length page)) f (known_known page r o.start (h.known, h.from)) in
-    record {
-      known = k.0;
-      from = k.1;
-      room = omega (arith, after_used page r o.start f, events_fit page words o r.used h.room, words_long page words o r.used h.room);
-    }

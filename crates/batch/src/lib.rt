@@ -1,13 +1,14 @@
 // A page's openings in one call: a lent list of records, each answered in place, as single scans in list order are, each over the event
 // room that the earlier ones left. The page's text is read once for the whole list.
 //
-// `fill` is two thin loops: a record is filled in `record`, and what a turn of each loop does is in `turns`.
+// `fill` goes over the list; one record's turn is in `turns`, and how its answer is filled in, in `record`.
 #![tactic(auto)]
 
 ghost use Rattle.std.specs.Prelude.{◌≡◌};
-ghost use Rattle.batch.specs.Batch.{batch, batch_of};
+ghost use Rattle.batch.specs.Batch.{batch, batch_of, answered};
 
-use crate::turns::{answer_one, begin, finished, look_at, open_page};
+use crate::turns::{all_counting, answer_one, begin};
+use base::state;
 
 pub mod many;
 mod record;
@@ -45,21 +46,30 @@ pub struct Filled {
     pub events: usize,
 }
 
-// Every record of the list is answered by a single scan over the page, with steps enough, in list order.
+// What became of a list, by the number of its answer, since it is handed to C.
+fn outcome(answer: u8, records: usize, events: usize) -> Filled
+    ensures { result ≡ answered answer records events }
+{
+    Filled {
+        answer,
+        records,
+        events,
+    }
+}
+
+// Every record of the list is answered by a single scan over the page, with steps enough, in list order. Full room ends the list.
 pub fn fill(page: &[u8], openings: &mut [Opening], events: &mut [u32]) -> Filled
     ensures { batch result openings.new events.new ≡ batch_of page.now openings.old events.old }
 {
-    let mut look = begin(openings.len());
-    while look.at < look.stop {
-        let i = look.at;
-        look = look_at(openings[i], look);
+    if !all_counting(openings) {
+        return outcome(state::BAD_CALL, 0, 0);
     }
-    let mut run = open_page(page, look);
-    while run.at < run.stop {
-        let i = run.at;
-        let turned = answer_one(page, openings[i], events, run);
-        openings[i] = turned.opening;
-        run = turned.run;
+    let mut run = begin(page);
+    for (i, opening) in openings.iter_mut().enumerate() {
+        run = answer_one(page, opening, events, run);
+        if opening.answer == state::FULL {
+            return outcome(state::FULL, i + 1, run.used);
+        }
     }
-    finished(run)
+    outcome(state::DONE, openings.len(), run.used)
 }

@@ -5,6 +5,7 @@ ghost use Rattle.batch.specs.Record.{filled_of};
 ghost use Rattle.batch.specs.Inner.{bare_of, ended_of, placed_of, tallied_of};
 
 use crate::Opening;
+use base::state;
 use page::line::Spot;
 use scan::{Answer, Tally};
 
@@ -13,10 +14,6 @@ fn bare(opening: Opening, first: usize, answer: u8) -> Opening
     ensures { result ≡ bare_of opening first answer }
 {
     Opening {
-        start: opening.start,
-        construct: opening.construct,
-        kind: opening.kind,
-        flags: opening.flags,
         answer,
         place: 0,
         line: 0,
@@ -26,6 +23,7 @@ fn bare(opening: Opening, first: usize, answer: u8) -> Opening
         events: 0,
         steps: 0,
         first,
+        ..opening
     }
 }
 
@@ -33,35 +31,39 @@ fn bare(opening: Opening, first: usize, answer: u8) -> Opening
 fn ended(opening: Opening, first: usize, end: usize) -> Opening
     ensures { result ≡ ended_of opening first end }
 {
-    let mut record = bare(opening, first, 0);
-    record.place = end;
-    record
+    Opening {
+        place: end,
+        ..bare(opening, first, state::DONE)
+    }
 }
 
 // With a place, a where-number and a note; the last two are 0 where the answer does not carry them.
 fn placed(opening: Opening, first: usize, answer: u8, spot: Spot, site: u8, note: u8) -> Opening
     ensures { result ≡ placed_of opening first answer spot site note }
 {
-    let mut record = bare(opening, first, answer);
-    record.place = spot.place;
-    record.line = spot.line;
-    record.column = spot.column;
-    record.site = site;
-    record.note = note;
-    record
+    Opening {
+        place: spot.place,
+        line: spot.line,
+        column: spot.column,
+        site,
+        note,
+        ..bare(opening, first, answer)
+    }
 }
 
 // The same record with its events and steps.
 fn tallied(opening: Opening, tally: Tally) -> Opening
     ensures { result ≡ tallied_of opening tally }
 {
-    let mut record = opening;
-    record.events = tally.events;
-    record.steps = tally.steps;
-    record
+    Opening {
+        events: tally.events,
+        steps: tally.steps,
+        ..opening
+    }
 }
 
-// The record with what a single scan answers. Of what no counting scan answers it has the number alone.
+// The record with what a single scan answers, by the numbers of docs/NUMBERS.md, since it is handed to C. Of what no counting scan
+// answers it has the number alone.
 pub(crate) fn filled(opening: Opening, first: usize, answer: Answer) -> Opening
     ensures { result ≡ filled_of opening first (said_by answer) }
 {

@@ -17,8 +17,10 @@ use Rattle.base.proofs.Choice.{if_is}
 use Rattle.events.specs.declared.Event.{Event}
 use Rattle.events.specs.Words.{width, encode}
 use Rattle.events.proofs.Laws.{written_is}
-use Rattle.page.specs.declared.Checked.{Checked}
-use Rattle.page.specs.declared.Checked.TheVariants as checked
+use Rattle.std.specs.Prelude.{Result, Ok, Err}
+use Rattle.page.specs.declared.Fault.{Fault}
+use Rattle.page.specs.declared.Fault.TheVariants.{TooLong, BadStart, BadText}
+use Rattle.page.specs.declared.line.Line.{Line}
 use Rattle.page.specs.Page.{page_check}
 use Rattle.tokenizer.specs.declared.Job.{Job}
 use Rattle.scan.specs.declared.Scan.{Scan}
@@ -103,12 +105,12 @@ module _ (page : List ℕ) (steps : ℕ) (lent : List ℕ) where
   abbrev Writes : Begun → Type 0
   Writes b = Given (ran_from b page steps lent).answer → Wrote lent (ran_from b page steps lent) (begun_events page steps b)
 
-  wrote_checked : (j : Job) → j.words ≡ length lent → (c : Checked) → Writes (begun_if c j)
+  wrote_checked : (j : Job) → j.words ≡ length lent → (c : Result Line Fault) → Writes (begun_if c j)
   unfolding fresh_in carried value_in find when◌then◌else◌
-  wrote_checked j w (checked.Good line) g = wrote_run (fresh_in line j) refl w g
-  wrote_checked j w checked.TooLong g = wrote_none _ _ refl
-  wrote_checked j w checked.BadStart g = wrote_none _ _ refl
-  wrote_checked j w (checked.BadText p) g = wrote_none _ _ refl
+  wrote_checked j w (Ok line) g = wrote_run (fresh_in line j) refl w g
+  wrote_checked j w (Err TooLong) g = wrote_none _ _ refl
+  wrote_checked j w (Err BadStart) g = wrote_none _ _ refl
+  wrote_checked j w (Err (BadText p)) g = wrote_none _ _ refl
 
   wrote_begun : (bytes : List ℕ) (at n start construct kind flags : ℕ) → Writes (begin_of bytes at n start construct kind flags (length lent))
   unfolding begin_of among

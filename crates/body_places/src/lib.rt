@@ -1,5 +1,5 @@
 // The body that a verdict is about, and where its bytes stand in the page.
-#![tactic(auto)]
+#![tactic(auto, using(base::proofs::Choice::picks))]
 
 ghost use Rattle.std.specs.Prelude.{◌≡◌, ◌-◌, ◌<◌, ◌^◌};
 ghost use Rattle.body_places.specs.Body as body;
@@ -17,33 +17,24 @@ pub fn prefix_after(b: u16) -> u8
 pub fn in_prefix(b: u16, left: u8) -> bool
     ensures { result ≡ body.in_prefix b left }
 {
-    if left <= 0 {
-        return false;
-    }
-    b == byte::SPACE
+    0 < left && b == byte::SPACE
 }
 
 // Whether such a prefix ends inside the byte, which is a tab then.
 pub fn splits(b: u16, left: u8) -> bool
     ensures { result ≡ body.splits b left }
 {
-    if left <= 0 {
-        return false;
-    }
-    b == byte::TAB
+    0 < left && b == byte::TAB
 }
+
+// A tab has so many columns at the most.
+const TAB_SIZE: u8 = 4;
 
 // How many spaces stand for the tab.
 pub fn spaces(left: u8) -> usize
     ensures { result ≡ 4 - left }
 {
-    match left {
-        0 => 4,
-        1 => 3,
-        2 => 2,
-        3 => 1,
-        _ => 0,
-    }
+    usize::from(TAB_SIZE.saturating_sub(left))
 }
 
 // How far places drift at this byte: not at all where it begins a run.
@@ -61,45 +52,41 @@ pub fn expression_place(page: &[u8], from: usize, to: usize, r: usize) -> usize
     requires { to < 2 ^ 63 }
     ensures { result ≡ body.place_of (body.expression_places page.now from to) r to }
 {
-    let mut at = from;
     let mut left: u8 = 0;
     let mut drift: usize = 0;
     let mut more = r;
-    while at < to {
+    for at in from..to {
         let b = byte_at(page, at);
         if in_prefix(b, left) {
-            left = left - 1;
-            at = at + 1;
-            continue;
-        }
-        if splits(b, left) {
+            left -= 1;
+        } else if splits(b, left) {
             let n = spaces(left);
             if more < n {
                 return at + more;
             }
-            more = more - n;
+            more -= n;
             left = 0;
             drift = n - 1;
-            at = at + 1;
-            continue;
+        } else {
+            drift = drift_at(b, drift);
+            if more == 0 {
+                return at + drift;
+            }
+            more -= 1;
+            left = prefix_after(b);
         }
-        drift = drift_at(b, drift);
-        if more == 0 {
-            return at + drift;
-        }
-        more = more - 1;
-        left = prefix_after(b);
-        at = at + 1;
     }
     to
 }
 
 // The place of byte r of the ESM block between `from` and `to`, or `to` where the block is not that long.
+#[tactic(auto, using(crate::proofs::Laws::counted, crate::proofs::Laws::past))]
 pub fn esm_place(from: usize, to: usize, r: usize) -> usize
     ensures { result ≡ body.place_of (body.esm_places from to) r to }
 {
-    if to <= from {
-        return to;
+    if r < to.saturating_sub(from) {
+        from + r
+    } else {
+        to
     }
-    if r < to - from { from + r } else { to }
 }

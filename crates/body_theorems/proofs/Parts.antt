@@ -22,8 +22,9 @@ use Rattle.body_places.proofs.Place.{byte_in}
 use Rattle.scan_theorems.proofs.Tests.{clash}
 use Rattle.scan_theorems.proofs.Parts.{parts}
 use Rattle.scan_theorems.proofs.Fresh.{start_within}
+use Rattle.std.specs.Prelude.{Option, Some, None}
 use Rattle.mdx_collect.specs.declared.Body.{Body}
-use Rattle.mdx_collect.specs.declared.Body.TheVariants.{InPage, InScratch, BadCall}
+use Rattle.mdx_collect.specs.declared.Body.TheVariants.{InPage, InScratch}
 use Rattle.mdx_collect.specs.Collect.{first, seam, unbroken, body_cells, body_of, asked, Collected, collected, collected_by, handed_over, collect_of, piece_of, part_of, PartIsBody}
 use Rattle.mdx_collect.proofs.Calls.{Asks, asks}
 use Rattle.mdx_collect.proofs.Laws.{bytes_at, bytes_long}
@@ -87,22 +88,22 @@ module _ (page : List ℕ) (s : Scan) where
 
   -- what the call leaves is read as the body
   abbrev Reads : Collected → Type 0
-  Reads c = (b : Body) (out : List ℕ) → collected_by b out ≡ c → handed_over b ≡ true → part_of page out b ≡ body_of page s
+  Reads c = (b : Option Body) (out : List ℕ) → collected_by b out ≡ c → handed_over b ≡ true → part_of page out b ≡ body_of page s
 
   from_page : (scratch : List ℕ) → asked s (length page) ≡ true → unbroken page s ≡ true → Reads (collected (said number.in_page (first s ∷ (seam s - first s) ∷ [])) scratch)
-  from_page scratch a u (InPage at n) out e h = rw (valued e 0, valued e 1) (page_part a u)
-  from_page scratch a u (InScratch n) out e h = absurd (omega (arith, numbered e))
-  from_page scratch a u BadCall out e h = clash false h refl
+  from_page scratch a u (Some (InPage at n)) out e h = rw (valued e 0, valued e 1) (page_part a u)
+  from_page scratch a u (Some (InScratch n)) out e h = absurd (omega (arith, numbered e))
+  from_page scratch a u None out e h = clash false h refl
 
   from_scratch : (scratch : List ℕ) → unbroken page s ≡ false → leb (length to_copy) (length scratch) ≡ true → Reads (collected (said number.in_scratch (length to_copy ∷ [])) (sets scratch 0 (bytes_of to_copy)))
-  from_scratch scratch u l (InPage at n) out e h = absurd (omega (arith, numbered e))
-  from_scratch scratch u l (InScratch n) out e h = rw (valued e 0, ap (λ (c : Collected). c.scratch) e) (scratch_part scratch u l)
-  from_scratch scratch u l BadCall out e h = clash false h refl
+  from_scratch scratch u l (Some (InPage at n)) out e h = absurd (omega (arith, numbered e))
+  from_scratch scratch u l (Some (InScratch n)) out e h = rw (valued e 0, ap (λ (c : Collected). c.scratch) e) (scratch_part scratch u l)
+  from_scratch scratch u l None out e h = clash false h refl
 
   from_none : (scratch : List ℕ) → Reads (collected refused scratch)
-  from_none scratch (InPage at n) out e h = absurd (omega (arith, numbered e))
-  from_none scratch (InScratch n) out e h = absurd (omega (arith, numbered e))
-  from_none scratch BadCall out e h = clash false h refl
+  from_none scratch (Some (InPage at n)) out e h = absurd (omega (arith, numbered e))
+  from_none scratch (Some (InScratch n)) out e h = absurd (omega (arith, numbered e))
+  from_none scratch None out e h = clash false h refl
 
 pub part_is_the_body : PartIsBody
 unfolding collect_of

@@ -16,7 +16,7 @@ use Rattle.base.specs.State.{rests}
 use Rattle.base.specs.declared.Verdict.{Verdict}
 use Rattle.page.specs.Page.{page_of, page_check}
 use Rattle.page.specs.declared.line.Line.{Line}
-use Rattle.page.specs.declared.Checked.TheVariants.{Good}
+use Rattle.std.specs.Prelude.{Ok}
 use Rattle.events.specs.declared.Event.{Event}
 use Rattle.events.specs.Words.{events_in}
 use Rattle.tokenizer.specs.declared.Job.{Job}
@@ -135,7 +135,7 @@ alone_of construct P of bytes at n start kind flags words s even e k vs enough u
 
 -- ---- one call
 
-module _ (bytes : List ℕ) (at n start construct kind flags : ℕ) (lent : List ℕ) (line : Line) (listed : numbers_listed construct kind flags ≡ true) (good : page_check bytes at n start ≡ Good line) where
+module _ (bytes : List ℕ) (at n start construct kind flags : ℕ) (lent : List ℕ) (line : Line) (listed : numbers_listed construct kind flags ≡ true) (good : page_check bytes at n start ≡ Ok line) where
   abbrev page : List ℕ
   page = page_of bytes at n
 

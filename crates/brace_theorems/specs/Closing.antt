@@ -4,7 +4,7 @@
 --
 -- The theorems are `an_expression_closes_by_the_rule`, for an expression that stands alone, by its answer, and
 -- `a_tag_closes_its_expressions_by_the_rule`, for those in a tag, by its events. Their proofs are in proofs/Closing.antt.
-use Rattle.std.specs.Prelude.{ℕ, ◌+◌, ◌-◌, ◌*◌, ◌%◌, ◌≤◌, ◌≡◌, ◌↔◌, ◌⊎◌, Bool, true, false, not, ◌&&◌, List, [], ◌∷◌, ◌++◌, eqb, length, get_or}
+use Rattle.std.specs.Prelude.{ℕ, ◌+◌, ◌-◌, ◌*◌, ◌%◌, ◌≤◌, ◌≡◌, ◌↔◌, ◌⊎◌, Bool, true, false, not, ◌&&◌, List, [], ◌∷◌, ◌++◌, Ok, eqb, length, get_or}
 use Rattle.std.proofs.Math.Option.{Option, none, some}
 use Rattle.base.specs.Byte.{left_brace}
 use Rattle.base.specs.If.{when◌then◌else◌, among}
@@ -15,7 +15,6 @@ use Rattle.base.specs.declared.Verdict.{Verdict}
 use Rattle.mdx_expression.specs.Expression.{in_expression}
 use Rattle.page.specs.Page.{page_of, page_check}
 use Rattle.page.specs.declared.line.Line.{Line}
-use Rattle.page.specs.declared.Checked.TheVariants.{Good}
 use Rattle.events.specs.declared.Event.{Event}
 use Rattle.events.specs.Words.{room_in, events_in}
 use Rattle.room.specs.Room.{events_enough}
@@ -110,7 +109,7 @@ OfEverySingleScan construct P =
     → numbers_listed construct kind flags ≡ true
     → eqb (flags % 2) 1 ≡ false
     → events_enough (n - start) ≤ room_in (length lent)
-    → page_check bytes at n start ≡ Good line
+    → page_check bytes at n start ≡ Ok line
     → let left = whole_of bytes at n start construct kind flags lent in
     P (page_of bytes at n) start left.answer (events_in left.words 0 left.scan.used)
 

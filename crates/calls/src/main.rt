@@ -7,7 +7,8 @@ mod reading;
 mod replying;
 mod script;
 
-use lines::{finish_run, fresh_run, one_turn};
+use lines::serve_input;
+use script::Script;
 use std::io::Read;
 use std::rt::Files;
 
@@ -24,9 +25,6 @@ const WORD_ROOM: usize = 65_537;
 const SCRATCH_ROOM: usize = LENT_ROOM + LENT_ROOM / 2;
 
 const TEXT_ROOM: usize = 196_608;
-
-// More than there are lines and reads in any input.
-const TURNS: u64 = 18_446_744_073_709_551_615;
 
 fn main(rt: HostRuntime) {
     let mut source = rt.stdin();
@@ -59,11 +57,6 @@ fn run_all(
     scratch: &mut [u8; SCRATCH_ROOM],
     out: &mut [u8; TEXT_ROOM],
 ) {
-    let mut run = fresh_run();
-    let mut left = TURNS;
-    while 0 < left {
-        run = one_turn(rt, source, buffer, lent, events, scratch, out, run);
-        left = text::turns_left(left, run.going);
-    }
-    finish_run(rt, errors, out, run);
+    let mut script = Script::new(lent, events, scratch, out);
+    serve_input(rt, source, errors, buffer, &mut script);
 }

@@ -1,211 +1,101 @@
 // A call as it stands on a line: its name and its fields, with one space between two.
 use base::Verdict;
-use text::{Letters, Parsed, ReadLetters, ReadNumber, ReadVerdict};
+use scan::Request;
 
 #[derive(Clone, Copy)]
 pub(crate) enum Call {
     // Where the bytes in hex begin on the line.
     Lend(usize),
-    Start {
-        q: usize,
-        words: usize,
-    },
-    Admit {
-        letters: Letters,
-        start: usize,
-        at: usize,
-        length: usize,
-    },
+    Start { q: usize, words: usize },
+    Admit(Request),
     // With the event buffer and the bytes that were lent.
     Turn,
     // With an event buffer of so many words.
     TurnOfWords(usize),
     // With the first so many of the lent bytes.
     TurnOfLent(usize),
-    Tell {
-        place: usize,
-        verdict: Verdict,
-    },
+    Tell { place: usize, verdict: Verdict },
     // With a scratch of so many bytes.
-    Body {
-        place: usize,
-        scratch: usize,
-    },
+    Body { place: usize, scratch: usize },
     Collect(usize),
     // How many words are enough for a page of so many bytes.
     Words(usize),
-    // The line is no call.
-    Bad,
 }
 
 // The bytes that the letters of an admission take, with their spaces.
 const LETTERS_LENGTH: usize = 8;
 
-pub(crate) fn read_call(line: &[u8]) -> Call {
+// None where the line is no call.
+pub(crate) fn read_call(line: &[u8]) -> Option<Call> {
     let end = text::find(line, 0, b' ');
-    if text::is_word(line, 0, line.len(), b"turn") {
-        return Call::Turn;
+    let from = end + 1;
+    match &line[..end] {
+        b"turn" => read_turn(line, from),
+        b"verdict" => read_tell(line, from),
+        b"admit" => read_admit(line, from),
+        b"start" => read_start(line, from),
+        b"body" => read_body(line, from),
+        b"lend" if end < line.len() => Some(Call::Lend(from)),
+        b"collect" => last_number(line, from).map(|place| Call::Collect(place)),
+        b"words" => last_number(line, from).map(|length| Call::Words(length)),
+        _ => None,
     }
-    if text::is_word(line, 0, end, b"turn") {
-        return read_turn(line, end + 1);
-    }
-    if text::is_word(line, 0, end, b"verdict") {
-        return read_tell(line, end + 1);
-    }
-    if text::is_word(line, 0, end, b"admit") {
-        return read_admit(line, end + 1);
-    }
-    read_other(line, end)
-}
-
-fn read_other(line: &[u8], end: usize) -> Call {
-    if line.len() <= end {
-        return Call::Bad;
-    }
-    if text::is_word(line, 0, end, b"lend") {
-        return Call::Lend(end + 1);
-    }
-    if text::is_word(line, 0, end, b"start") {
-        return read_start(line, end + 1);
-    }
-    if text::is_word(line, 0, end, b"body") {
-        return read_body(line, end + 1);
-    }
-    if text::is_word(line, 0, end, b"collect") {
-        return read_collect(line, end + 1);
-    }
-    if text::is_word(line, 0, end, b"words") {
-        return read_words(line, end + 1);
-    }
-    Call::Bad
 }
 
 // The last field of a line is a number.
-fn last_number(line: &[u8], from: usize) -> Parsed {
-    text::decimal(line, from, line.len())
+fn last_number(line: &[u8], from: usize) -> Option<usize> {
+    text::decimal(line, from, line.len()).map(|number| number as usize)
 }
 
-fn read_start(line: &[u8], from: usize) -> Call {
-    match text::read_number(line, from) {
-        ReadNumber::Field { number, next } => start_of(number, last_number(line, next)),
-        ReadNumber::NoField => Call::Bad,
+fn read_start(line: &[u8], from: usize) -> Option<Call> {
+    let q = text::read_number(line, from)?;
+    let words = last_number(line, q.next)?;
+    Some(Call::Start { q: q.number, words })
+}
+
+fn read_admit(line: &[u8], from: usize) -> Option<Call> {
+    let letters = text::read_letters(line, from)?;
+    let start = text::read_number(line, from.wrapping_add(LETTERS_LENGTH))?;
+    let at = text::read_number(line, start.next)?;
+    let length = last_number(line, at.next)?;
+    Some(Call::Admit(Request {
+        at: at.number,
+        length,
+        start: start.number,
+        construct: letters.construct,
+        kind: letters.kind,
+        flags: letters.flags,
+    }))
+}
+
+// Alone, or with what is lent in place of the event buffer or of the bytes.
+fn read_turn(line: &[u8], from: usize) -> Option<Call> {
+    if line.len() < from {
+        return Some(Call::Turn);
     }
-}
-
-fn start_of(q: usize, words: Parsed) -> Call {
-    match words {
-        Parsed::Number(number) => Call::Start {
-            q,
-            words: number as usize,
-        },
-        Parsed::Bad => Call::Bad,
-    }
-}
-
-fn read_admit(line: &[u8], from: usize) -> Call {
-    match text::read_letters(line, from) {
-        ReadLetters::Asked(letters) => read_page(line, after_letters(from), letters),
-        ReadLetters::NoLetters => Call::Bad,
-    }
-}
-
-fn after_letters(from: usize) -> usize {
-    std::num::wrapping_add_usize(from, LETTERS_LENGTH)
-}
-
-fn read_page(line: &[u8], from: usize, letters: Letters) -> Call {
-    match text::read_number(line, from) {
-        ReadNumber::Field { number, next } => read_place(line, next, letters, number),
-        ReadNumber::NoField => Call::Bad,
-    }
-}
-
-fn read_place(line: &[u8], from: usize, letters: Letters, start: usize) -> Call {
-    match text::read_number(line, from) {
-        ReadNumber::Field { number, next } => {
-            admit_of(letters, start, number, last_number(line, next))
-        }
-        ReadNumber::NoField => Call::Bad,
-    }
-}
-
-fn admit_of(letters: Letters, start: usize, at: usize, length: Parsed) -> Call {
-    match length {
-        Parsed::Number(number) => Call::Admit {
-            letters,
-            start,
-            at,
-            length: number as usize,
-        },
-        Parsed::Bad => Call::Bad,
-    }
-}
-
-// What is lent in place of the event buffer or of the bytes.
-fn read_turn(line: &[u8], from: usize) -> Call {
     let mark = text::find(line, from, b'=');
-    if mark == line.len() {
-        return Call::Bad;
-    }
-    match last_number(line, mark + 1) {
-        Parsed::Number(number) => turn_of(line, from, mark, number as usize),
-        Parsed::Bad => Call::Bad,
-    }
-}
-
-fn turn_of(line: &[u8], from: usize, to: usize, number: usize) -> Call {
-    if text::is_word(line, from, to, b"words") {
-        return Call::TurnOfWords(number);
-    }
-    if text::is_word(line, from, to, b"lent") {
-        return Call::TurnOfLent(number);
-    }
-    Call::Bad
-}
-
-fn read_tell(line: &[u8], from: usize) -> Call {
-    match text::read_number(line, from) {
-        ReadNumber::Field { number, next } => {
-            tell_of(number, text::read_verdict(line, next, line.len()))
-        }
-        ReadNumber::NoField => Call::Bad,
+    let number = last_number(line, mark + 1)?;
+    match &line[from..mark] {
+        b"words" => Some(Call::TurnOfWords(number)),
+        b"lent" => Some(Call::TurnOfLent(number)),
+        _ => None,
     }
 }
 
-fn tell_of(place: usize, read: ReadVerdict) -> Call {
-    match read {
-        ReadVerdict::Heard(verdict) => Call::Tell { place, verdict },
-        ReadVerdict::NoVerdict => Call::Bad,
-    }
+fn read_tell(line: &[u8], from: usize) -> Option<Call> {
+    let place = text::read_number(line, from)?;
+    let verdict = text::read_verdict(line, place.next, line.len())?;
+    Some(Call::Tell {
+        place: place.number,
+        verdict,
+    })
 }
 
-fn read_body(line: &[u8], from: usize) -> Call {
-    match text::read_number(line, from) {
-        ReadNumber::Field { number, next } => body_of(number, last_number(line, next)),
-        ReadNumber::NoField => Call::Bad,
-    }
-}
-
-fn body_of(place: usize, scratch: Parsed) -> Call {
-    match scratch {
-        Parsed::Number(number) => Call::Body {
-            place,
-            scratch: number as usize,
-        },
-        Parsed::Bad => Call::Bad,
-    }
-}
-
-fn read_collect(line: &[u8], from: usize) -> Call {
-    match last_number(line, from) {
-        Parsed::Number(number) => Call::Collect(number as usize),
-        Parsed::Bad => Call::Bad,
-    }
-}
-
-fn read_words(line: &[u8], from: usize) -> Call {
-    match last_number(line, from) {
-        Parsed::Number(number) => Call::Words(number as usize),
-        Parsed::Bad => Call::Bad,
-    }
+fn read_body(line: &[u8], from: usize) -> Option<Call> {
+    let place = text::read_number(line, from)?;
+    let scratch = last_number(line, place.next)?;
+    Some(Call::Body {
+        place: place.number,
+        scratch,
+    })
 }

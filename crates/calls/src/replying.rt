@@ -1,10 +1,9 @@
 // A reply as text.
 use crate::body::{body_in, put_body_place};
 use report::{Told, tell};
-use room::{Enough, Longest};
 use worker::Reply;
 
-// The numbers of the answers TooLong and NoPlace.
+// The numbers of the answers TooLong and NoPlace, which no scan rests in.
 const TOO_LONG: u8 = 2;
 
 const NO_PLACE: u8 = 11;
@@ -32,26 +31,24 @@ pub(crate) fn put_reply(
     }
 }
 
-pub(crate) fn is_started(reply: Reply) -> bool {
-    match reply {
-        Reply::Started(_) => true,
-        _ => false,
-    }
-}
-
 // The words that are enough for a page.
-pub(crate) fn put_enough(rt: &impl Print, enough: Enough, out: &mut [u8], used: usize) -> usize {
+pub(crate) fn put_enough(
+    rt: &impl Print,
+    enough: Option<usize>,
+    out: &mut [u8],
+    used: usize,
+) -> usize {
     match enough {
-        Enough::Words(words) => put_numbered(rt, b"Words ", words, out, used),
-        Enough::TooLong => put_plain(rt, TOO_LONG, out, used),
+        Some(words) => put_numbered(rt, b"Words ", words, out, used),
+        None => put_plain(rt, TOO_LONG, out, used),
     }
 }
 
 // The longest page that cannot run full.
-fn put_started(rt: &impl Print, longest: Longest, out: &mut [u8], used: usize) -> usize {
+fn put_started(rt: &impl Print, longest: Option<usize>, out: &mut [u8], used: usize) -> usize {
     match longest {
-        Longest::Bytes(length) => put_numbered(rt, b"Started ", length, out, used),
-        Longest::NoPage => report::put(rt, out, used, b"Started none"),
+        Some(length) => put_numbered(rt, b"Started ", length, out, used),
+        None => report::put(rt, out, used, b"Started none"),
     }
 }
 
@@ -71,24 +68,14 @@ fn put_answer(rt: &impl Print, told: Told, out: &mut [u8], used: usize) -> usize
     report::answer_text(out, at, told, b":")
 }
 
-// A finished page's answer carries its counts; a verdict kept and a refusal carry none.
+// A finished page's answer carries its counts, and its events stand behind them; a verdict kept and a refusal carry none.
 fn put_answered(rt: &impl Print, told: Told, events: &[u32], out: &mut [u8], used: usize) -> usize {
-    if told.counted {
-        return put_collected(rt, told, events, out, used);
-    }
-    put_answer(rt, told, out, used)
-}
-
-fn put_collected(
-    rt: &impl Print,
-    told: Told,
-    events: &[u32],
-    out: &mut [u8],
-    used: usize,
-) -> usize {
     let at = put_answer(rt, told, out, used);
+    let Some(tally) = told.tally else {
+        return at;
+    };
     let at = report::put(rt, out, at, b" | steps ");
-    let at = report::put_number(rt, out, at, told.steps as u64);
+    let at = report::put_number(rt, out, at, tally.steps as u64);
     let at = report::put(rt, out, at, b" | events");
-    report::put_marks(rt, out, at, events, told.events)
+    report::put_marks(rt, out, at, events, tally.events)
 }

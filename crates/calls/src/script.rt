@@ -1,18 +1,23 @@
 // One call after the other, on one worker.
 use crate::body::put_body;
 use crate::reading::{Call, read_call};
-use crate::replying::{is_started, put_enough, put_reply};
+use crate::replying::{put_enough, put_reply};
 use base::Verdict;
-use text::{Hex, Letters};
-use worker::{Called, Worker};
+use scan::Request;
+use worker::{Called, Reply, Worker};
 
-// The worker, how many bytes are lent, how many words its event buffer has, how far the output's buffer is filled, the number of the
-// line at hand, and how many lines were no calls.
-#[derive(Clone, Copy)]
-pub(crate) struct Script {
+// The worker; the bytes, the event buffer, the scratch and the output's buffer that the program has room for, how many of the bytes are
+// lent, how many words the worker's event buffer has and how far the output's is filled; the number of the line at hand, and how many
+// lines were no calls.
+#[derive(Drop)]
+pub(crate) struct Script<'a> {
     pub worker: Worker,
+    pub bytes: &'a mut [u8],
     pub lent: usize,
+    pub events: &'a mut [u32],
     pub words: usize,
+    pub scratch: &'a mut [u8],
+    pub out: &'a mut [u8],
     pub used: usize,
     pub line: u64,
     pub bad: u64,
@@ -21,26 +26,191 @@ pub(crate) struct Script {
 // The longest event buffer of a worker, in words.
 const MOST_WORDS: usize = 65_536;
 
-// Before the first start there is a worker that refuses every call, since no turn has 0 steps.
-pub(crate) fn fresh_script() -> Script {
-    let called = Worker::new(0, 0);
-    let worker = called.worker;
-    Script {
-        worker,
-        lent: 0,
-        words: 0,
-        used: 0,
-        line: 0,
-        bad: 0,
+impl<'a> Script<'a> {
+    // Before the first start there is a worker that refuses every call, since no turn has 0 steps.
+    pub(crate) fn new(
+        bytes: &'a mut [u8],
+        events: &'a mut [u32],
+        scratch: &'a mut [u8],
+        out: &'a mut [u8],
+    ) -> Self {
+        Script {
+            worker: Worker::new(0, 0).worker,
+            bytes,
+            lent: 0,
+            events,
+            words: 0,
+            scratch,
+            out,
+            used: 0,
+            line: 0,
+            bad: 0,
+        }
     }
 }
 
-// A line that is no call, or that asks for more than the program has room for, changes nothing.
-pub(crate) fn bad_line(rt: &impl Print, out: &mut [u8], script: Script, why: &[u8]) -> Script {
-    let mut next = script;
-    next.used = report::put_bad_line(rt, out, script.used, script.line, why);
-    next.bad = script.bad.wrapping_add(1);
-    next
+impl Script<'_> {
+    pub(crate) fn begin_line(&mut self) {
+        self.line = self.line.wrapping_add(1);
+    }
+
+    // A line that is no call, or that asks for more than the program has room for, changes nothing.
+    pub(crate) fn bad_line(&mut self, rt: &impl Print, why: &[u8]) {
+        self.used = report::put_bad_line(rt, self.out, self.used, self.line, why);
+        self.bad = self.bad.wrapping_add(1);
+    }
+
+    pub(crate) fn flush(&mut self, rt: &impl Print) {
+        let used = self.used;
+        report::flush(rt, self.out, used);
+        self.used = 0;
+    }
+
+    // The last line of the output, where a line was no call.
+    pub(crate) fn finish(&mut self, rt: &impl Print) {
+        self.used = report::put_bad_lines(rt, self.out, self.used, self.bad);
+        self.flush(rt);
+    }
+
+    pub(crate) fn serve(&mut self, rt: &impl Print, line: &[u8]) {
+        match read_call(line) {
+            Some(Call::Lend(from)) => self.lend(rt, line, from),
+            Some(Call::Start { q, words }) => self.start(rt, line, q, words),
+            Some(Call::Words(length)) => self.words_for(rt, line, length),
+            Some(Call::Admit(request)) => self.admit(rt, line, request),
+            Some(Call::Turn) => self.turn(rt, line, self.lent, self.words),
+            Some(Call::TurnOfWords(words)) => self.turn(rt, line, self.lent, words),
+            Some(Call::TurnOfLent(count)) => {
+                self.turn(rt, line, count.min(self.lent), self.words)
+            }
+            Some(Call::Tell { place, verdict }) => self.tell(rt, line, place, verdict),
+            Some(Call::Collect(place)) => self.collect(rt, line, place),
+            Some(Call::Body { place, scratch }) => self.body(rt, line, place, scratch),
+            None => self.bad_line(rt, b""),
+        }
+    }
+
+    // The bytes stand on the line up to its end; more than there is room for are not taken.
+    fn lend(&mut self, rt: &impl Print, line: &[u8], from: usize) {
+        match text::read_bytes(line, from, line.len(), self.bytes) {
+            Ok(count) => {
+                self.lent = count;
+                let at = put_call(rt, line, self.out, self.used);
+                self.used = report::put(rt, self.out, at, b"Lent\n");
+            }
+            Err(_) => self.bad_line(rt, b""),
+        }
+    }
+
+    // Nothing is asked of a worker, so there need be none.
+    fn words_for(&mut self, rt: &impl Print, line: &[u8], length: usize) {
+        let at = put_call(rt, line, self.out, self.used);
+        let at = put_enough(rt, room::words_enough(length), self.out, at);
+        self.used = report::put(rt, self.out, at, b"\n");
+    }
+
+    // A new worker has an event buffer of zeros. One that is refused leaves the one that was there.
+    fn start(&mut self, rt: &impl Print, line: &[u8], q: usize, words: usize) {
+        if MOST_WORDS < words {
+            return self.bad_line(rt, b"");
+        }
+        let called = Worker::new(q, words);
+        if matches!(called.reply, Reply::Started(_)) {
+            self.events.fill(0);
+            self.words = words;
+            self.worker = called.worker;
+        }
+        self.used = put_replied(rt, line, called.reply, self.out, self.used);
+    }
+
+    fn admit(&mut self, rt: &impl Print, line: &[u8], request: Request) {
+        let count = self.lent.min(self.bytes.len());
+        let called = self.worker.admit(&self.bytes[0..count], request);
+        self.replied(rt, line, called);
+    }
+
+    fn turn(&mut self, rt: &impl Print, line: &[u8], count: usize, words: usize) {
+        let called = turn_over(self.worker, self.bytes, count, self.events, words);
+        self.replied(rt, line, called);
+    }
+
+    fn tell(&mut self, rt: &impl Print, line: &[u8], place: usize, verdict: Verdict) {
+        let called = self.worker.verdict(place, verdict);
+        self.replied(rt, line, called);
+    }
+
+    // The worker that a call left, and the reply behind the call.
+    fn replied(&mut self, rt: &impl Print, line: &[u8], called: Called) {
+        self.worker = called.worker;
+        self.used = put_replied(rt, line, called.reply, self.out, self.used);
+    }
+
+    // The events of the page stand in the share of its place.
+    fn collect(&mut self, rt: &impl Print, line: &[u8], place: usize) {
+        let worker = self.worker;
+        let called = worker.collect(place);
+        let count = self.words.min(self.events.len());
+        let at = put_call(rt, line, self.out, self.used);
+        let at = put_collected(
+            rt,
+            called.reply,
+            self.out,
+            at,
+            worker,
+            &mut self.events[0..count],
+            place,
+        );
+        self.used = report::put(rt, self.out, at, b"\n");
+        self.worker = called.worker;
+    }
+
+    // A body, by way of the first `count` bytes of the scratch.
+    fn body(&mut self, rt: &impl Print, line: &[u8], place: usize, count: usize) {
+        if self.scratch.len() < count {
+            return self.bad_line(rt, b"");
+        }
+        let lent = self.lent.min(self.bytes.len());
+        let worker = self.worker;
+        let at = put_call(rt, line, self.out, self.used);
+        let at = put_body(
+            rt,
+            worker,
+            &mut self.bytes[0..lent],
+            place,
+            &mut self.scratch[0..count],
+            self.out,
+            at,
+        );
+        self.used = report::put(rt, self.out, at, b"\n");
+    }
+}
+
+// The proof has no rule for a `&` beside a `&mut` of one struct, so what these read of the script is lent as `&mut` too.
+
+// A turn over the first `count` of the lent bytes and an event buffer of so many words. The buffer has one word more than a worker may
+// have: more words than that are all of them, which is another length than any worker's.
+fn turn_over(
+    worker: Worker,
+    bytes: &mut [u8],
+    count: usize,
+    events: &mut [u32],
+    words: usize,
+) -> Called {
+    let count = count.min(bytes.len());
+    let words = words.min(events.len());
+    worker.turn(&bytes[0..count], &mut events[0..words])
+}
+
+fn put_collected(
+    rt: &impl Print,
+    reply: Reply,
+    out: &mut [u8],
+    used: usize,
+    worker: Worker,
+    events: &mut [u32],
+    place: usize,
+) -> usize {
+    put_reply(rt, reply, worker.share(events, place), out, used)
 }
 
 fn put_call(rt: &impl Print, line: &[u8], out: &mut [u8], used: usize) -> usize {
@@ -48,279 +218,9 @@ fn put_call(rt: &impl Print, line: &[u8], out: &mut [u8], used: usize) -> usize 
     report::put(rt, out, at, b" => ")
 }
 
-// The script after a call, whose reply is written behind it.
-fn finish(
-    rt: &impl Print,
-    line: &[u8],
-    called: Called,
-    events: &[u32],
-    out: &mut [u8],
-    script: Script,
-) -> Script {
-    let worker = called.worker;
-    let reply = called.reply;
-    let at = put_call(rt, line, out, script.used);
-    let at = put_reply(rt, reply, events, out, at);
-    let used = report::put(rt, out, at, b"\n");
-    Script {
-        worker,
-        lent: script.lent,
-        words: script.words,
-        used,
-        line: script.line,
-        bad: script.bad,
-    }
-}
-
-pub(crate) fn serve(
-    rt: &impl Print,
-    line: &[u8],
-    lent: &mut [u8],
-    events: &mut [u32],
-    scratch: &mut [u8],
-    out: &mut [u8],
-    script: Script,
-) -> Script {
-    let call = read_call(line);
-    match call {
-        Call::Lend(from) => lend(rt, line, from, lent, out, script),
-        Call::Start { q, words } => start(rt, line, q, words, events, out, script),
-        Call::Words(length) => words_for(rt, line, length, out, script),
-        Call::Admit {
-            letters,
-            start,
-            at,
-            length,
-        } => admit(rt, line, letters, start, at, length, lent, out, script),
-        Call::Body {
-            place,
-            scratch: count,
-        } => body(rt, line, place, count, lent, scratch, out, script),
-        _ => serve_place(rt, line, call, lent, events, out, script),
-    }
-}
-
-// The calls on pages that were admitted.
-fn serve_place(
-    rt: &impl Print,
-    line: &[u8],
-    call: Call,
-    lent: &[u8],
-    events: &mut [u32],
-    out: &mut [u8],
-    script: Script,
-) -> Script {
-    match call {
-        Call::Turn => turn(
-            rt,
-            line,
-            lent,
-            events,
-            script.lent,
-            script.words,
-            out,
-            script,
-        ),
-        Call::TurnOfWords(words) => turn(rt, line, lent, events, script.lent, words, out, script),
-        Call::TurnOfLent(count) => turn(
-            rt,
-            line,
-            lent,
-            events,
-            text::least(count, script.lent),
-            script.words,
-            out,
-            script,
-        ),
-        Call::Tell { place, verdict } => tell(rt, line, place, verdict, out, script),
-        Call::Collect(place) => collect(rt, line, place, events, out, script),
-        _ => bad_line(rt, out, script, b""),
-    }
-}
-
-// The bytes stand on the line up to its end; more than there is room for are not taken.
-fn lend(
-    rt: &impl Print,
-    line: &[u8],
-    from: usize,
-    lent: &mut [u8],
-    out: &mut [u8],
-    script: Script,
-) -> Script {
-    match text::read_bytes(line, from, line.len(), lent) {
-        Hex::Decoded(count) => {
-            let at = put_call(rt, line, out, script.used);
-            let mut next = script;
-            next.lent = count;
-            next.used = report::put(rt, out, at, b"Lent\n");
-            next
-        }
-        Hex::BadHex => bad_line(rt, out, script, b""),
-        Hex::NoRoom => bad_line(rt, out, script, b""),
-    }
-}
-
-// Nothing is asked of a worker, so there need be none.
-fn words_for(
-    rt: &impl Print,
-    line: &[u8],
-    length: usize,
-    out: &mut [u8],
-    script: Script,
-) -> Script {
-    let at = put_call(rt, line, out, script.used);
-    let at = put_enough(rt, room::words_enough(length), out, at);
-    let mut next = script;
-    next.used = report::put(rt, out, at, b"\n");
-    next
-}
-
-// A worker that is refused leaves the one that was there.
-fn start(
-    rt: &impl Print,
-    line: &[u8],
-    q: usize,
-    words: usize,
-    events: &mut [u32],
-    out: &mut [u8],
-    script: Script,
-) -> Script {
-    if MOST_WORDS < words {
-        return bad_line(rt, out, script, b"");
-    }
-    let called = Worker::new(q, words);
-    let reply = called.reply;
-    if is_started(reply) {
-        return begin(rt, line, called, words, events, out, script);
-    }
-    let worker = script.worker;
-    finish(rt, line, Called { worker, reply }, &[], out, script)
-}
-
-// The new worker, with an event buffer of zeros.
-fn begin(
-    rt: &impl Print,
-    line: &[u8],
-    called: Called,
-    words: usize,
-    events: &mut [u32],
-    out: &mut [u8],
-    script: Script,
-) -> Script {
-    clear(events);
-    let mut next = script;
-    next.words = words;
-    finish(rt, line, called, &[], out, next)
-}
-
-fn clear(events: &mut [u32]) {
-    let mut i = 0;
-    while i < events.len() {
-        events[i] = 0;
-        i += 1;
-    }
-}
-
-fn admit(
-    rt: &impl Print,
-    line: &[u8],
-    letters: Letters,
-    start: usize,
-    at: usize,
-    length: usize,
-    lent: &[u8],
-    out: &mut [u8],
-    script: Script,
-) -> Script {
-    let count = text::least(script.lent, lent.len());
-    let worker = script.worker;
-    let called = worker.admit(
-        &lent[0..count],
-        at,
-        length,
-        start,
-        letters.construct,
-        letters.kind,
-        letters.flags,
-    );
-    finish(rt, line, called, &[], out, script)
-}
-
-// A turn over the first `count` of the lent bytes and an event buffer of so many words. The buffer has one word more than a worker
-// may have: more words than that are all of them, which is another length than any worker's.
-fn turn(
-    rt: &impl Print,
-    line: &[u8],
-    lent: &[u8],
-    events: &mut [u32],
-    count: usize,
-    words: usize,
-    out: &mut [u8],
-    script: Script,
-) -> Script {
-    let bytes = text::least(count, lent.len());
-    let length = text::least(words, events.len());
-    let worker = script.worker;
-    let called = worker.turn(&lent[0..bytes], &mut events[0..length]);
-    finish(rt, line, called, events, out, script)
-}
-
-fn tell(
-    rt: &impl Print,
-    line: &[u8],
-    place: usize,
-    verdict: Verdict,
-    out: &mut [u8],
-    script: Script,
-) -> Script {
-    let worker = script.worker;
-    let called = worker.verdict(place, verdict);
-    finish(rt, line, called, &[], out, script)
-}
-
-// The events of the page stand in the share of its place.
-fn collect(
-    rt: &impl Print,
-    line: &[u8],
-    place: usize,
-    events: &[u32],
-    out: &mut [u8],
-    script: Script,
-) -> Script {
-    let count = text::least(script.words, events.len());
-    let worker = script.worker;
-    let called = worker.collect(place);
-    let share = worker.share(&events[0..count], place);
-    finish(rt, line, called, share, out, script)
-}
-
-// A body, by way of the first `count` bytes of the scratch.
-fn body(
-    rt: &impl Print,
-    line: &[u8],
-    place: usize,
-    count: usize,
-    lent: &[u8],
-    scratch: &mut [u8],
-    out: &mut [u8],
-    script: Script,
-) -> Script {
-    if scratch.len() < count {
-        return bad_line(rt, out, script, b"");
-    }
-    let bytes = text::least(script.lent, lent.len());
-    let worker = script.worker;
-    let at = put_call(rt, line, out, script.used);
-    let at = put_body(
-        rt,
-        worker,
-        &lent[0..bytes],
-        place,
-        &mut scratch[0..count],
-        out,
-        at,
-    );
-    let mut next = script;
-    next.used = report::put(rt, out, at, b"\n");
-    next
+// A call with its reply, which has no events.
+fn put_replied(rt: &impl Print, line: &[u8], reply: Reply, out: &mut [u8], used: usize) -> usize {
+    let at = put_call(rt, line, out, used);
+    let at = put_reply(rt, reply, &[], out, at);
+    report::put(rt, out, at, b"\n")
 }

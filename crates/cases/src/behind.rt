@@ -1,5 +1,13 @@
 // What stands behind a case, and so what is written for its line.
-use crate::run::{Run, bad_line, counted};
+use crate::run::Run;
+
+// A line, its case, and what is recorded behind the arrow, if there is one: from the space on that ends the arrow.
+#[derive(Clone, Copy)]
+pub(crate) struct Entry<'a> {
+    pub line: &'a [u8],
+    pub case: &'a [u8],
+    pub recorded: Option<&'a [u8]>,
+}
 
 #[derive(Clone, Copy)]
 pub(crate) enum Behind {
@@ -13,49 +21,27 @@ pub(crate) enum Behind {
     NoAnswer,
 }
 
-// An answer that is to be written, or needs not be: the line is counted, and what goes before the answer is put.
-#[derive(Clone, Copy)]
-pub(crate) struct Begun {
-    pub run: Run,
-    pub writes: bool,
-}
-
-pub(crate) fn begin_answer(
-    rt: &impl Print,
-    line: &[u8],
-    behind: Behind,
-    out: &mut [u8],
-    run: Run,
-) -> Begun {
+// The line is counted, and what goes before an answer is put: whether the answer is to be written.
+pub(crate) fn begins_answer(rt: &impl Print, line: &[u8], behind: Behind, run: &mut Run) -> bool {
     match behind {
-        Behind::Nothing => Begun {
-            run: counted(run, 0, 0),
-            writes: true,
-        },
-        Behind::Same => Begun {
-            run: counted(run, 1, 0),
-            writes: false,
-        },
-        Behind::Other => Begun {
-            run: recorded_first(rt, line, out, counted(run, 1, 1)),
-            writes: true,
-        },
-        Behind::NoAnswer => Begun {
-            run: bad_line(rt, out, run, b""),
-            writes: false,
-        },
+        Behind::Nothing => {
+            run.counted(0, 0);
+            true
+        }
+        Behind::Same => {
+            run.counted(1, 0);
+            false
+        }
+        Behind::Other => {
+            run.counted(1, 1);
+            run.put(rt, b"DIFFERS\n");
+            run.put(rt, line);
+            run.put(rt, b"\n");
+            true
+        }
+        Behind::NoAnswer => {
+            run.bad_line(rt, b"");
+            false
+        }
     }
-}
-
-fn recorded_first(rt: &impl Print, line: &[u8], out: &mut [u8], run: Run) -> Run {
-    let at = report::put(rt, out, run.used, b"DIFFERS\n");
-    let at = report::put(rt, out, at, line);
-    end_answer(run, report::put(rt, out, at, b"\n"))
-}
-
-// What was written goes up to this place of the output's buffer.
-pub(crate) fn end_answer(run: Run, used: usize) -> Run {
-    let mut next = run;
-    next.used = used;
-    next
 }

@@ -1,48 +1,37 @@
-// An answer that is recorded on a line, against the program's own.
-//
-// A place of 0 says that something differed before it; no recorded answer begins there.
-use report::Told;
-
-// The number of the answer Nok.
-const NOK: u8 = 1;
+// An answer that is recorded on a line, against the program's own. None says that something differs.
+use crate::running::Outcome;
+use base::state;
 
 // Room for the text of one event, answer or number.
 pub(crate) const PIECE_ROOM: usize = 256;
 
-// Whether the parts that are recorded from a place on are those of the answer. At Nok an empty list of events says nothing, since
-// the crate takes its events back there.
-pub(crate) fn agrees(line: &[u8], from: usize, told: Told, answer: &[u8], words: &[u32]) -> bool {
+// Whether the parts that are recorded, behind the space that ends the arrow, are those of the answer. At Nok an empty list of events says
+// nothing, since the crate takes its events back there.
+pub(crate) fn agrees(recorded: &[u8], outcome: Outcome, answer: &[u8], words: &[u32]) -> bool {
     let mut piece = [0u8; PIECE_ROOM];
-    let at = eat(line, from, answer);
-    let at = eat_steps(line, at, b" | steps", told.steps, &mut piece);
-    let at = eat(line, at, b" | events");
-    if at == 0 {
+    let Some(at) = eat_answer(recorded, outcome, answer, &mut piece) else {
         return false;
+    };
+    if outcome.number == state::NOK && at == recorded.len() {
+        return true;
     }
-    if told.number == NOK {
-        if at == line.len() {
-            return true;
-        }
-    }
-    eat_events(line, at, words, told.events, &mut piece) == line.len()
+    eat_events(recorded, at, words, outcome.made.events, &mut piece) == Some(recorded.len())
+}
+
+// The place past the answer and its steps, where the events begin.
+fn eat_answer(recorded: &[u8], outcome: Outcome, answer: &[u8], piece: &mut [u8]) -> Option<usize> {
+    let at = eat(recorded, 1, answer)?;
+    let at = eat_steps(recorded, at, b" | steps", outcome.made.steps, piece)?;
+    eat(recorded, at, b" | events")
 }
 
 // The place past the word, if the word stands at this place.
-pub(crate) fn eat(line: &[u8], from: usize, word: &[u8]) -> usize {
-    if from == 0 {
-        return 0;
+pub(crate) fn eat(line: &[u8], from: usize, word: &[u8]) -> Option<usize> {
+    if line.get(from..)?.starts_with(word) {
+        Some(from + word.len())
+    } else {
+        None
     }
-    if line.len() < from {
-        return 0;
-    }
-    if line.len() - from < word.len() {
-        return 0;
-    }
-    let to = from + word.len();
-    if text::is_word(line, from, to, word) {
-        return to;
-    }
-    0
 }
 
 // The word and the steps behind it, which need not be recorded.
@@ -52,16 +41,20 @@ pub(crate) fn eat_steps(
     word: &[u8],
     steps: usize,
     piece: &mut [u8],
-) -> usize {
-    let at = eat(line, from, word);
-    if at == 0 {
-        return from;
+) -> Option<usize> {
+    match eat(line, from, word) {
+        Some(at) => eat_number(line, at, steps, piece),
+        None => Some(from),
     }
-    eat_number(line, at, steps, piece)
 }
 
 // A space and the number.
-pub(crate) fn eat_number(line: &[u8], from: usize, number: usize, piece: &mut [u8]) -> usize {
+pub(crate) fn eat_number(
+    line: &[u8],
+    from: usize,
+    number: usize,
+    piece: &mut [u8],
+) -> Option<usize> {
     let count = report::spaced(piece, 0, number);
     eat(line, from, &piece[0..count])
 }
@@ -72,14 +65,11 @@ pub(crate) fn eat_events(
     words: &[u32],
     count: usize,
     piece: &mut [u8],
-) -> usize {
-    let most = events::room::held(count, words.len());
+) -> Option<usize> {
     let mut place = from;
-    let mut k = 0;
-    while k < most {
+    for k in 0..events::room::held(count, words.len()) {
         let end = report::event_mark(piece, 0, events::read(words, k));
-        place = eat(line, place, &piece[0..end]);
-        k += 1;
+        place = eat(line, place, &piece[0..end])?;
     }
-    place
+    Some(place)
 }

@@ -1,149 +1,122 @@
-// One line of the input after the other.
-ghost use Rattle.std.specs.Prelude.{◌≤◌, length};
-
+// One line of the input after the other. `calls` has the same loop: a trait for what the two do with a line would be longer than it.
+use crate::behind::Entry;
 use crate::case_lines::case_line;
+use crate::desk::Desk;
 use crate::list_lines::list_line;
 use crate::list_reading::is_list;
-use crate::run::{Run, bad_line, numbered, stopped};
+use crate::run::Run;
+use std::io;
 use std::io::Read;
 use std::rt::Files;
-use text::{Line, Sort};
+use text::{Input, Line, Sort};
 
-// A line is used up, or more is read. What is to be written is written before each read, so that someone at a terminal sees it.
-pub(crate) fn one_turn(
-    rt: &impl Print,
+// More than there are lines and reads in any input.
+const TURNS: u64 = 18_446_744_073_709_551_615;
+
+// Every line of the input, and the status: 0 where each was a case or a comment and nothing differs, 2 where a read failed.
+pub(crate) fn run_input(
+    rt: &(impl Files + Print),
     source: &mut impl Read,
+    errors: &impl Print,
     buffer: &mut [u8],
-    page: &mut [u8],
-    words: &mut [u32],
-    scratch: &mut [u8],
-    piece: &mut [u8],
-    out: &mut [u8],
-    run: Run,
-) -> Run {
-    let taken = text::take_line(buffer, run.input);
-    let from = taken.from;
-    let to = taken.to;
-    let line = taken.line;
-    let input = taken.input;
-    let mut next = run;
-    next.input = input;
-    match line {
-        Line::Whole => {
-            let next = numbered(next);
-            sorted_line(
-                rt,
-                &buffer[from..to],
-                page,
-                words,
-                scratch,
-                piece,
-                out,
-                next,
-            )
-        }
-        Line::TooLong => bad_line(rt, out, numbered(next), b" is too long"),
-        Line::Skipped => next,
-        Line::More => read_on(rt, source, buffer, out, next),
-        Line::Ended => stopped(next),
+    desk: &mut Desk,
+    run: &mut Run,
+) {
+    let read = run_lines(rt, source, buffer, desk, run);
+    run.put_totals(rt);
+    match read {
+        Ok(_) => report::say_status(
+            rt,
+            if run.bad == 0 && run.differ == 0 {
+                0
+            } else {
+                1
+            },
+        ),
+        Err(_) => report::give_up(rt, errors, b"cases: standard input can't be read\n"),
     }
 }
 
 // After a read that failed there is nothing more to do: what was read of a line before is no line.
-fn read_on(
+fn run_lines(
     rt: &impl Print,
     source: &mut impl Read,
     buffer: &mut [u8],
-    out: &[u8],
-    run: Run,
-) -> Run {
-    report::flush(rt, out, run.used);
-    let filled = text::fill(source, buffer, run.input);
-    let input = filled.input;
-    let mut next = run;
-    next.used = 0;
-    next.input = input;
-    next.failed = filled.failed;
-    next.going = !filled.failed;
-    next
+    desk: &mut Desk,
+    run: &mut Run,
+) -> io::Result<()> {
+    let mut input = Input::new();
+    for _ in 0..TURNS {
+        match one_turn(rt, source, buffer, desk, run, input)? {
+            Some(next) => input = next,
+            None => break,
+        }
+    }
+    Ok(())
 }
 
-fn sorted_line(
+// A line is used up, or more is read: the input to go on with, or None at its end. What is to be written is written before each read, so
+// that someone at a terminal sees it.
+fn one_turn(
     rt: &impl Print,
-    line: &[u8],
-    page: &mut [u8],
-    words: &mut [u32],
-    scratch: &mut [u8],
-    piece: &mut [u8],
-    out: &mut [u8],
-    run: Run,
-) -> Run {
+    source: &mut impl Read,
+    buffer: &mut [u8],
+    desk: &mut Desk,
+    run: &mut Run,
+    input: Input,
+) -> io::Result<Option<Input>> {
+    let taken = text::take_line(buffer, input);
+    match taken.line {
+        Line::Whole => {
+            run.begin_line();
+            run_line(rt, &buffer[taken.from..taken.to], desk, run);
+        }
+        Line::TooLong => {
+            run.begin_line();
+            run.bad_line(rt, b" is too long");
+        }
+        Line::Skipped => {}
+        Line::More => {
+            run.flush(rt);
+            let filled = text::fill(source, buffer, taken.input)?;
+            return Ok(Some(filled));
+        }
+        Line::Ended => return Ok(None),
+    }
+    Ok(Some(taken.input))
+}
+
+fn run_line(rt: &impl Print, line: &[u8], desk: &mut Desk, run: &mut Run) {
     match text::sort_of(line) {
-        Sort::Comment => run,
-        Sort::Windows => bad_line(rt, out, run, b" ends in a carriage return"),
-        Sort::Plain => plain_line(rt, line, page, words, scratch, piece, out, run),
+        Sort::Comment => {}
+        Sort::Windows => run.bad_line(rt, b" ends in a carriage return"),
+        Sort::Plain => match entry_on(line) {
+            Some(entry) if is_list(line) => list_line(rt, entry, desk, run),
+            Some(entry) => case_line(rt, entry, desk, run),
+            None => run.bad_line(rt, b""),
+        },
     }
 }
 
-// A list of jobs, or a single case.
-fn plain_line(
-    rt: &impl Print,
-    line: &[u8],
-    page: &mut [u8],
-    words: &mut [u32],
-    scratch: &mut [u8],
-    piece: &mut [u8],
-    out: &mut [u8],
-    run: Run,
-) -> Run {
-    let end = case_end(line);
-    if is_list(line) {
-        return list_line(rt, line, end, page, words, out, run);
-    }
-    case_line(rt, line, end, page, words, scratch, piece, out, run)
-}
-
-// Where the case on a line ends: before ` => `, or at the line's end. An arrow that stands otherwise leaves no case.
-fn case_end(line: &[u8]) -> usize
-    ensures { result ≤ length line.now }
-{
+// The case on a line ends before ` => `, or at the line's end. An arrow that stands otherwise leaves no case.
+fn entry_on(line: &[u8]) -> Option<Entry<'_>> {
     let mark = text::find(line, 0, b'>');
     if mark == line.len() {
-        return mark;
+        return Some(Entry {
+            line,
+            case: line,
+            recorded: None,
+        });
     }
     if mark < 2 {
-        return 0;
+        return None;
     }
-    if line.len() - mark < 2 {
-        return 0;
+    if !text::is_word(line, mark - 2, mark + 2, b" => ") {
+        return None;
     }
-    if text::is_word(line, mark - 2, mark + 2, b" => ") {
-        return mark - 2;
-    }
-    0
-}
-
-// The last lines of the output, and the status: 0 where every line was a case or a comment and nothing differs, 2 where a read failed.
-pub(crate) fn put_totals(rt: &(impl Files + Print), errors: &impl Print, out: &mut [u8], run: Run) {
-    let at = report::put_bad_lines(rt, out, run.used, run.bad);
-    let at = report::put_number(rt, out, at, run.cases);
-    let at = report::put(rt, out, at, b" cases, ");
-    let at = report::put_number(rt, out, at, run.compared);
-    let at = report::put(rt, out, at, b" compared, ");
-    let at = report::put_number(rt, out, at, run.differ);
-    let at = report::put(rt, out, at, b" differ\n");
-    report::flush(rt, out, at);
-    end_with(rt, errors, run);
-}
-
-fn end_with(rt: &impl Files, errors: &impl Print, run: Run) {
-    if run.failed {
-        report::give_up(rt, errors, b"cases: standard input can't be read\n");
-        return;
-    }
-    if run.bad != 0 {
-        report::say_status(rt, 1);
-        return;
-    }
-    report::say_status(rt, if run.differ == 0 { 0 } else { 1 });
+    Some(Entry {
+        line,
+        case: &line[..mark - 2],
+        recorded: Some(&line[mark + 1..]),
+    })
 }

@@ -1,21 +1,17 @@
 // A list may have any number of jobs, and a call takes MANY: so a list is handed over in pieces, a call each. What comes out is what one
 // call with the whole list would answer.
-ghost use Rattle.std.specs.Prelude.{◌<◌, ◌≤◌, length};
+ghost use Rattle.std.specs.Prelude.{◌<◌, ◌≤◌, length, IfSome};
 
 use crate::list_reading::{Jobs, read_jobs};
+use base::state;
 use batch::Filled;
 use batch::many::{Many, fill_many};
 
-// The numbers of the answers Full and BadCall.
-const FULL: u8 = 10;
-
-const BAD_CALL: u8 = 12;
-
-// What is known of a list before it is run: whether all of its jobs could be read, and whether one of those that could has the list
-// refused.
+// A list of which every job could be read: its text, where its jobs begin there, and whether one of them has it refused.
 #[derive(Clone, Copy)]
-pub(crate) struct Judged {
-    pub all_read: bool,
+pub(crate) struct List<'a> {
+    pub text: &'a [u8],
+    pub jobs: usize,
     pub refused: bool,
 }
 
@@ -36,60 +32,56 @@ pub(crate) struct Piece {
     pub front: Front,
 }
 
-// All pieces are looked at, in order, up to the first job that can't be read.
-pub(crate) fn judge(list: &[u8], from: usize, words: &mut [u32]) -> Judged {
+// All pieces are looked at, in order. None where a job can't be read.
+pub(crate) fn judge(text: &[u8], jobs: usize) -> Option<List<'_>> {
     let mut refused = false;
-    let mut at = from;
-    while at <= list.len() {
-        let jobs = read_jobs(list, at);
-        if !jobs.all_read {
-            return Judged {
-                all_read: false,
-                refused,
-            };
-        }
-        if is_refused(jobs, words) {
-            refused = true;
-        }
-        at = jobs.next;
+    let mut at = jobs;
+    // It goes on by a piece, and not by one.
+    while at <= text.len() {
+        let piece = read_jobs(text, at)?;
+        refused = refused || is_refused(piece);
+        at = piece.next;
     }
-    Judged {
-        all_read: true,
+    Some(List {
+        text,
+        jobs,
         refused,
-    }
+    })
 }
 
 // The call refuses a piece for its jobs alone, so it is asked on an empty page and without words, where there is next to nothing to run.
-fn is_refused(jobs: Jobs, words: &mut [u32]) -> bool {
+fn is_refused(jobs: Jobs) -> bool {
     let openings = jobs.openings;
-    let many = fill_many(b"", openings, &mut words[0..0]);
-    many.filled.answer == BAD_CALL
+    fill_many(b"", openings, &mut []).filled.answer == state::BAD_CALL
 }
 
 // Nothing is run yet.
-pub(crate) fn first_front(from: usize) -> Front {
+pub(crate) fn first_front(list: List) -> Front {
     Front {
-        at: from,
+        at: list.jobs,
         events: 0,
         full: false,
     }
 }
 
-// The piece that begins at the front. There are far fewer events than would make their count wrap.
-pub(crate) fn run_piece(list: &[u8], front: Front, page: &[u8], words: &mut [u32]) -> Piece
-    ensures { (result.count ≤ 256) × (front.at ≤ length list.now → front.at < result.front.at) }
+// The piece that begins at the front, if there is one. There are far fewer events than would make their count wrap.
+pub(crate) fn run_piece(list: List, front: Front, page: &[u8], words: &mut [u32]) -> Option<Piece>
+    ensures { IfSome result (λ piece. (front.at ≤ length list.entry.text.now) × (front.at < piece.front.at)) }
 {
-    let jobs = read_jobs(list, front.at);
+    if list.text.len() < front.at {
+        return None;
+    }
+    let jobs = read_jobs(list.text, front.at)?;
     let many = run_jobs(jobs, front, page, words);
-    Piece {
+    Some(Piece {
         many,
         count: jobs.count,
         front: Front {
             at: jobs.next,
-            events: std::num::wrapping_add_usize(front.events, many.filled.events),
-            full: many.filled.answer == FULL,
+            events: front.events.wrapping_add(many.filled.events),
+            full: many.filled.answer == state::FULL,
         },
-    }
+    })
 }
 
 // The jobs of a piece over the words that the events before it left. Behind a record that was answered Full there is no call: none of
@@ -100,7 +92,7 @@ fn run_jobs(jobs: Jobs, front: Front, page: &[u8], words: &mut [u32]) -> Many {
         return Many {
             openings,
             filled: Filled {
-                answer: FULL,
+                answer: state::FULL,
                 records: 0,
                 events: 0,
             },

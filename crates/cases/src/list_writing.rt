@@ -1,98 +1,60 @@
 // A list with its answers.
-ghost use Rattle.std.specs.Prelude.{◌≤◌};
-
 use crate::comparing::PIECE_ROOM;
-use crate::list_pieces::{Piece, first_front, run_piece};
+use crate::list_pieces::{List, Piece, first_front, run_piece};
 use crate::list_telling::told_of;
+use crate::run::Run;
 use batch::Opening;
 
-// How far the output's buffer is filled, and how many events the list wrote.
-#[derive(Clone, Copy)]
-struct Written {
-    used: usize,
-    events: usize,
-}
-
-// The list as it stands on its line, whose jobs begin at a place, a part for each job, and the events of all.
-pub(crate) fn put_list(
-    rt: &impl Print,
-    list: &[u8],
-    from: usize,
-    refused: bool,
-    page: &[u8],
-    words: &mut [u32],
-    out: &mut [u8],
-    used: usize,
-) -> usize {
-    let at = report::put(rt, out, used, list);
-    let at = report::put(rt, out, at, b" =>");
-    if refused {
-        return report::put(rt, out, at, b" BadCall | events\n");
+// The list as it stands on its line, a part for each job, and the events of all.
+pub(crate) fn put_list(rt: &impl Print, list: List, page: &[u8], words: &mut [u32], run: &mut Run) {
+    run.put(rt, list.text);
+    run.put(rt, b" =>");
+    if list.refused {
+        return run.put(rt, b" BadCall | events\n");
     }
-    let written = put_pieces(rt, list, from, page, words, out, at);
-    let at = report::put(rt, out, written.used, b" | events");
-    let at = report::put_marks(rt, out, at, words, written.events);
-    report::put(rt, out, at, b"\n")
+    let events = put_pieces(rt, list, page, words, run);
+    run.put(rt, b" | events");
+    run.put_marks(rt, words, events);
+    run.put(rt, b"\n");
 }
 
-// The list is run, and the parts of a piece are put before the next is run.
-fn put_pieces(
-    rt: &impl Print,
-    list: &[u8],
-    from: usize,
-    page: &[u8],
-    words: &mut [u32],
-    out: &mut [u8],
-    used: usize,
-) -> Written {
-    let mut front = first_front(from);
-    let mut place = used;
-    while front.at <= list.len() {
-        let piece = run_piece(list, front, page, words);
-        place = put_parts(rt, piece, front.at == from, out, place);
+// The list is run, and the parts of a piece are put before the next is run: how many events the list wrote. A closure for what is done with
+// a piece, here and in `eat_pieces`, would be no plainer: that one may end early.
+fn put_pieces(rt: &impl Print, list: List, page: &[u8], words: &mut [u32], run: &mut Run) -> usize {
+    let mut front = first_front(list);
+    while let Some(piece) = run_piece(list, front, page, words) {
+        put_parts(rt, piece, front.at == list.jobs, run);
         front = piece.front;
     }
-    Written {
-        used: place,
-        events: front.events,
-    }
+    front.events
 }
 
 // `first` says that the piece is the list's first.
-fn put_parts(rt: &impl Print, piece: Piece, first: bool, out: &mut [u8], used: usize) -> usize
-    requires { piece.count ≤ 256 }
-{
-    let openings = piece.many.openings;
-    let mut opens = first;
-    let mut at = used;
-    let mut i = 0;
-    while i < piece.count {
-        let place = put_joint(rt, opens, out, at);
-        at = put_part(rt, openings[i], i < piece.many.filled.records, out, place);
-        opens = false;
-        i += 1;
+fn put_parts(rt: &impl Print, piece: Piece, first: bool, run: &mut Run) {
+    for (i, opening) in piece.many.openings.iter().take(piece.count).enumerate() {
+        put_joint(rt, first && i == 0, run);
+        put_part(rt, *opening, i < piece.many.filled.records, run);
     }
-    at
 }
 
 // What stands before a part, of which one opens the answer.
-fn put_joint(rt: &impl Print, opens: bool, out: &mut [u8], used: usize) -> usize {
+fn put_joint(rt: &impl Print, opens: bool, run: &mut Run) {
     if opens {
-        return report::put(rt, out, used, b" ");
+        return run.put(rt, b" ");
     }
-    report::put(rt, out, used, b" ; ")
+    run.put(rt, b" ; ");
 }
 
 // A record that was not filled is as it was lent.
-fn put_part(rt: &impl Print, opening: Opening, filled: bool, out: &mut [u8], used: usize) -> usize {
+fn put_part(rt: &impl Print, opening: Opening, filled: bool, run: &mut Run) {
     if !filled {
-        return report::put(rt, out, used, b"-");
+        return run.put(rt, b"-");
     }
     let mut piece = [0u8; PIECE_ROOM];
     let length = report::answer_text(&mut piece, 0, told_of(opening), b":");
-    let at = report::put(rt, out, used, &piece[0..length]);
-    let at = report::put(rt, out, at, b" steps ");
-    let at = report::put_number(rt, out, at, opening.steps as u64);
-    let at = report::put(rt, out, at, b" events ");
-    report::put_number(rt, out, at, opening.events as u64)
+    run.put(rt, &piece[0..length]);
+    run.put(rt, b" steps ");
+    run.put_number(rt, opening.steps as u64);
+    run.put(rt, b" events ");
+    run.put_number(rt, opening.events as u64);
 }

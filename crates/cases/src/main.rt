@@ -6,6 +6,7 @@ mod behind;
 mod body;
 mod case_lines;
 mod comparing;
+mod desk;
 mod lines;
 mod list_comparing;
 mod list_lines;
@@ -19,8 +20,9 @@ mod recorded;
 mod run;
 mod running;
 
-use lines::{one_turn, put_totals};
-use run::fresh_run;
+use desk::Desk;
+use lines::run_input;
+use run::Run;
 use std::io::Read;
 use std::rt::Files;
 
@@ -38,9 +40,6 @@ const WORD_ROOM: usize = room::AT_EACH_BYTE * (PAGE_ROOM + 1) * events::WIDTH;
 const PIECE_ROOM: usize = 196_608;
 
 const TEXT_ROOM: usize = 65_536;
-
-// More than there are lines and reads in any input.
-const TURNS: u64 = 18_446_744_073_709_551_615;
 
 fn main(rt: HostRuntime) {
     let mut source = rt.stdin();
@@ -76,11 +75,12 @@ fn run_all(
     piece: &mut [u8; PIECE_ROOM],
     out: &mut [u8; TEXT_ROOM],
 ) {
-    let mut run = fresh_run();
-    let mut left = TURNS;
-    while 0 < left {
-        run = one_turn(rt, source, buffer, page, words, scratch, piece, out, run);
-        left = text::turns_left(left, run.going);
-    }
-    put_totals(rt, errors, out, run);
+    let mut desk = Desk {
+        page,
+        words,
+        scratch,
+        piece,
+    };
+    let mut run = Run::new(out);
+    run_input(rt, source, errors, buffer, &mut desk, &mut run);
 }

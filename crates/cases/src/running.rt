@@ -2,37 +2,31 @@
 ghost use Rattle.std.specs.Prelude.{◌≤◌, length};
 
 use crate::body::put_body;
-use crate::reading::{Case, item_end};
+use crate::reading::Case;
 use base::Verdict;
-use report::{Told, tell};
+use report::tell;
 use scan::beginning::single;
-use scan::{Answer, Ran};
-use text::ReadVerdict;
+use scan::{Answer, Ran, Tally};
 
 // More calls than a case takes: one for each step of the longest page, and one for each verdict.
 const CALLS: usize = 1_000_000;
 
-// The number of the answer Asking.
-const ASKING: u8 = 31;
+// What an answer that carries no counts is written with.
+const NOTHING_MADE: Tally = Tally {
+    events: 0,
+    steps: 0,
+};
 
-// The answer taken apart, and the length of its text, which stands at the start of a lent buffer.
+// The answer's number, its counts, and the length of its text, which stands at the start of a lent buffer.
 #[derive(Clone, Copy)]
 pub(crate) struct Outcome {
-    pub told: Told,
+    pub number: u8,
+    pub made: Tally,
     pub length: usize,
-}
-
-// What a call has come to, and the verdicts that are left.
-#[derive(Clone, Copy)]
-struct Turn {
-    ran: Ran,
-    more: bool,
-    at: usize,
 }
 
 // The text of the answer, with the body where the scan asks, goes to the piece.
 pub(crate) fn run_case(
-    line: &[u8],
     case: Case,
     page: &[u8],
     words: &mut [u32],
@@ -41,116 +35,56 @@ pub(crate) fn run_case(
 ) -> Outcome
     ensures { result.length ≤ length piece.new }
 {
-    let first = single(
-        page,
-        0,
-        page.len(),
-        case.start,
-        case.construct,
-        case.kind,
-        case.flags,
-        case.allowance,
-        words,
-    );
-    let ran = run_on(line, case, first, page, words);
-    outcome_of(ran, page, scratch, piece)
-}
-
-fn told_outcome(told: Told, piece: &mut [u8]) -> Outcome
-    ensures { result.length ≤ length piece.new }
-{
-    let length = report::answer_text(piece, 0, told, b":");
-    Outcome { told, length }
-}
-
-fn outcome_of(ran: Ran, page: &[u8], scratch: &mut [u8], piece: &mut [u8]) -> Outcome
-    ensures { result.length ≤ length piece.new }
-{
-    let answer = ran.answer;
-    let told = tell(answer);
-    let plain = told_outcome(told, piece);
-    if told.number != ASKING {
-        return plain;
+    let ran = run_on(case, page, words);
+    let told = tell(ran.answer);
+    let mut length = report::answer_text(piece, 0, told, b":");
+    if matches!(ran.answer, Answer::Asking { .. }) {
+        let at = report::text(piece, length, b" ");
+        length = put_body(ran.scan, page, scratch, piece, at).min(piece.len());
     }
-    let scan = ran.scan;
-    let at = report::text(piece, plain.length, b" ");
-    let at = put_body(scan, page, scratch, piece, at);
-    let length = report::text(piece, at, b"");
-    Outcome { told, length }
+    Outcome {
+        number: told.number,
+        made: told.tally.unwrap_or(NOTHING_MADE),
+        length,
+    }
 }
 
-// From what the first call has come to.
-fn run_on(line: &[u8], case: Case, first: Ran, page: &[u8], words: &mut [u32]) -> Ran {
-    let to = case.verdicts_end;
-    let allowance = case.allowance;
-    let mut at = case.verdicts;
-    let mut ran = first;
-    let mut left = CALLS;
-    while 0 < left {
-        let turn = after_call(line, at, to, ran);
-        let next = turn.ran;
-        if !turn.more {
-            return next;
+// A paused scan goes on; one that asks is given the next verdict of the list.
+fn run_on(case: Case, page: &[u8], words: &mut [u32]) -> Ran {
+    let mut ran = single(page, case.request, case.allowance, words);
+    let mut at = 0;
+    for _ in 0..CALLS {
+        match ran.answer {
+            Answer::Paused { .. } => {}
+            Answer::Asking { .. } => {
+                let Some(next) = next_verdict(case.verdicts, at) else {
+                    return ran;
+                };
+                ran = ran.scan.give(next.verdict);
+                if !matches!(ran.answer, Answer::Kept) {
+                    return ran;
+                }
+                at = next.behind;
+            }
+            _ => return ran,
         }
-        let scan = next.scan;
-        ran = scan.run(page, words, allowance);
-        at = turn.at;
-        left = left - 1;
+        ran = ran.scan.run(page, words, case.allowance);
     }
     ran
 }
 
-// A paused scan goes on; to one that asks, the next verdict is given.
-fn after_call(line: &[u8], at: usize, to: usize, ran: Ran) -> Turn {
-    let answer = ran.answer;
-    match answer {
-        Answer::Asking { .. } => answered(line, at, to, ran),
-        Answer::Paused { .. } => Turn {
-            ran,
-            more: true,
-            at,
-        },
-        _ => Turn {
-            ran,
-            more: false,
-            at,
-        },
-    }
+// A verdict, and where the rest of its list begins.
+#[derive(Clone, Copy)]
+struct Heard {
+    verdict: Verdict,
+    behind: usize,
 }
 
-fn answered(line: &[u8], at: usize, to: usize, ran: Ran) -> Turn {
-    if to <= at {
-        return Turn {
-            ran,
-            more: false,
-            at,
-        };
-    }
-    let end = item_end(line, at, to);
-    let told = ran.scan.give(heard(text::read_verdict(line, at, end)));
-    let answer = told.answer;
-    Turn {
-        ran: told,
-        more: kept(answer),
-        at: after(end, to),
-    }
-}
-
-// The list was read before, so every item of it is a verdict.
-fn heard(read: ReadVerdict) -> Verdict {
-    match read {
-        ReadVerdict::Heard(verdict) => verdict,
-        ReadVerdict::NoVerdict => Verdict::Unfinished(0),
-    }
-}
-
-fn kept(answer: Answer) -> bool {
-    match answer {
-        Answer::Kept => true,
-        _ => false,
-    }
-}
-
-fn after(end: usize, to: usize) -> usize {
-    if end < to { end + 1 } else { to }
+fn next_verdict(list: &[u8], at: usize) -> Option<Heard> {
+    let end = text::find(list, at, b',');
+    let verdict = text::read_verdict(list, at, end)?;
+    Some(Heard {
+        verdict,
+        behind: end + 1,
+    })
 }

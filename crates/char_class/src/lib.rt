@@ -15,33 +15,27 @@ use base::byte::{
 };
 
 // White space in a tag: tab, line feed, vertical tab, form feed, carriage return and space.
+#[tactic(auto, using(base::proofs::Choice::picks, base::proofs::Ranges::ranges), unfolding(crate::specs::Class::is_whitespace))]
 pub fn whitespace(b: u16) -> bool
     ensures { result ≡ is_whitespace b }
 {
-    match b {
-        TAB..=CARRIAGE_RETURN | SPACE => true,
-        _ => false,
-    }
+    matches!(b, TAB..=CARRIAGE_RETURN | SPACE)
 }
 
 // What a line prefix and a blank line are made of.
+#[tactic(auto, using(base::proofs::Choice::picks, base::proofs::Ranges::ranges), unfolding(crate::specs::Class::is_space_or_tab))]
 pub fn space_or_tab(b: u16) -> bool
     ensures { result ≡ is_space_or_tab b }
 {
-    match b {
-        TAB | SPACE => true,
-        _ => false,
-    }
+    matches!(b, TAB | SPACE)
 }
 
 // What a name starts with.
+#[tactic(auto, using(base::proofs::Choice::picks, base::proofs::Ranges::ranges), unfolding(crate::specs::Class::is_id_start))]
 pub fn id_start(b: u16) -> bool
     ensures { result ≡ is_id_start b }
 {
-    match b {
-        CAPITAL_A..=CAPITAL_Z | SMALL_A..=SMALL_Z | DOLLAR_SIGN | UNDERSCORE => true,
-        _ => false,
-    }
+    matches!(b, CAPITAL_A..=CAPITAL_Z | SMALL_A..=SMALL_Z | DOLLAR_SIGN | UNDERSCORE)
 }
 
 // A bit for each byte that a name goes on with: `$`, `-` and the digits in the first word, the letters and `_` in the second.

@@ -1,5 +1,5 @@
 -- What the parts of the crossing do. No promise to a user of the library cites these.
-use Rattle.std.specs.Prelude.{ℕ, List, eqb, length, get_or}
+use Rattle.std.specs.Prelude.{ℕ, eqb}
 use Rattle.base.specs.If.{when◌then◌else◌}
 use Rattle.base.specs.Number.{bad_call}
 use Rattle.page.specs.declared.line.Spot.{Spot}
@@ -10,7 +10,6 @@ use Rattle.scan.specs.declared.lines.Lines.{Lines}
 use Rattle.crossing.specs.declared.AnswerNumbers.{AnswerNumbers}
 use Rattle.crossing.specs.declared.BodyNumbers.{BodyNumbers}
 use Rattle.crossing.specs.declared.ScanNumbers.{ScanNumbers}
-use Rattle.crossing.specs.declared.workers.Lengths.{Lengths}
 use Rattle.crossing.specs.Scans.{scan_in}
 
 abbrev pub carried_of : ℕ → Spot → ℕ → ℕ → ℕ → AnswerNumbers
@@ -56,10 +55,6 @@ regs_in c = (scan_in c).tokenizer.regs
 
 unfoldable pub lines_in : ScanNumbers → Lines
 lines_in c = (scan_in c).lines
-
--- the lengths that an answer says, none or one
-abbrev pub lengths_of : List ℕ → Lengths
-lengths_of lengths = record { longest = get_or lengths 0 0; fits = length lengths }
 
 -- an answer that says nothing of a body
 abbrev pub bodiless_of : ℕ → ℕ → BodyNumbers

@@ -1,3 +1,4 @@
+pub mod Listed
 pub mod Answers
 pub mod Scans
 pub mod Workers

@@ -4,11 +4,10 @@
 -- what it stands for is answered 12, and the state is handed back as it was."
 use Rattle.std.specs.Prelude.{ℕ, Bool, ◌&&◌, leb, eqb}
 use Rattle.base.specs.If.{when◌then◌else◌}
-use Rattle.base.specs.Tab.{columns_of}
+use Rattle.base.specs.Tab.{columns_of, in_tab}
 use Rattle.base.specs.declared.InTab.{InTab}
 use Rattle.base.specs.declared.Verdict.{Verdict}
 use Rattle.base.specs.declared.Verdict.TheVariants.{Fine, Unfinished, Wrong}
-use Rattle.events.specs.Words.{in_tab}
 use Rattle.scan.specs.declared.Scan.{Scan}
 use Rattle.scan.specs.Answer.{Said, refused}
 use Rattle.scan.specs.Call.{job_of, all_flags}

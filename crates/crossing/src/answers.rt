@@ -10,7 +10,6 @@ ghost use Rattle.crossing.specs.Inner.{bare_of, placed_of, tallied_of, carried_o
 use crate::{AnswerNumbers, BodyNumbers, EnoughNumbers};
 use mdx_collect::Body;
 use page::line::Spot;
-use room::Enough;
 use scan::{Answer, Tally};
 use worker::Reply;
 
@@ -35,9 +34,10 @@ pub fn bare(number: u8) -> AnswerNumbers
 fn with_place(number: u8, place: usize) -> AnswerNumbers
     ensures { result ≡ placed_of number place }
 {
-    let mut numbers = bare(number);
-    numbers.place = place;
-    numbers
+    AnswerNumbers {
+        place,
+        ..bare(number)
+    }
 }
 
 // One that carries a place, a where-number, a note and a verdict's number; 0 for those that it does not carry.
@@ -48,12 +48,10 @@ fn at_spot(number: u8, spot: Spot, site: u8, note: u8, verdict: u32) -> AnswerNu
         place: spot.place,
         line: spot.line,
         column: spot.column,
-        events: 0,
-        steps: 0,
         verdict,
-        number,
         site,
         note,
+        ..bare(number)
     }
 }
 
@@ -61,87 +59,88 @@ fn at_spot(number: u8, spot: Spot, site: u8, note: u8, verdict: u32) -> AnswerNu
 fn tallied(numbers: AnswerNumbers, tally: Tally) -> AnswerNumbers
     ensures { result ≡ tallied_of numbers tally }
 {
-    let mut numbers = numbers;
-    numbers.events = tally.events;
-    numbers.steps = tally.steps;
-    numbers
+    AnswerNumbers {
+        events: tally.events,
+        steps: tally.steps,
+        ..numbers
+    }
 }
 
 // What a single scan is answered.
-pub fn answer_numbers(answer: Answer) -> AnswerNumbers
-    ensures { result ≡ answer_numbers (single.said_by answer) }
-{
-    match answer {
-        Answer::Done { end, tally } => tallied(with_place(0, end), tally),
-        Answer::Nok { tally } => tallied(bare(1), tally),
-        Answer::TooLong => bare(2),
-        Answer::BadStart => bare(3),
-        Answer::BadText { spot } => at_spot(4, spot, 0, 0, 0),
-        Answer::NotAscii { spot, tally } => tallied(at_spot(5, spot, 0, 0, 0), tally),
-        Answer::Eof { spot, site, tally } => tallied(at_spot(6, spot, site, 0, 0), tally),
-        Answer::Unexpected {
-            spot,
-            site,
-            note,
-            tally,
-        } => tallied(at_spot(7, spot, site, note, 0), tally),
-        Answer::VerdictError {
-            spot,
-            number,
-            tally,
-        } => tallied(at_spot(8, spot, 0, 0, number), tally),
-        Answer::VerdictEof {
-            spot,
-            number,
-            tally,
-        } => tallied(at_spot(9, spot, 0, 0, number), tally),
-        Answer::Full { spot, tally } => tallied(at_spot(10, spot, 0, 0, 0), tally),
-        Answer::BadCall => bare(12),
-        Answer::Asking { spot, tally } => tallied(at_spot(31, spot, 0, 0, 0), tally),
-        Answer::Paused { spot, tally } => tallied(at_spot(32, spot, 0, 0, 0), tally),
-        Answer::Kept => bare(33),
+impl From<Answer> for AnswerNumbers {
+    ghost from_gives = { λ answer numbers. numbers ≡ answer_numbers (single.said_by answer) };
+
+    fn from(answer: Answer) -> AnswerNumbers {
+        match answer {
+            Answer::Done { end, tally } => tallied(with_place(0, end), tally),
+            Answer::Nok { tally } => tallied(bare(1), tally),
+            Answer::TooLong => bare(2),
+            Answer::BadStart => bare(3),
+            Answer::BadText { spot } => at_spot(4, spot, 0, 0, 0),
+            Answer::NotAscii { spot, tally } => tallied(at_spot(5, spot, 0, 0, 0), tally),
+            Answer::Eof { spot, site, tally } => tallied(at_spot(6, spot, site, 0, 0), tally),
+            Answer::Unexpected {
+                spot,
+                site,
+                note,
+                tally,
+            } => tallied(at_spot(7, spot, site, note, 0), tally),
+            Answer::VerdictError {
+                spot,
+                number,
+                tally,
+            } => tallied(at_spot(8, spot, 0, 0, number), tally),
+            Answer::VerdictEof {
+                spot,
+                number,
+                tally,
+            } => tallied(at_spot(9, spot, 0, 0, number), tally),
+            Answer::Full { spot, tally } => tallied(at_spot(10, spot, 0, 0, 0), tally),
+            Answer::BadCall => bare(12),
+            Answer::Asking { spot, tally } => tallied(at_spot(31, spot, 0, 0, 0), tally),
+            Answer::Paused { spot, tally } => tallied(at_spot(32, spot, 0, 0, 0), tally),
+            Answer::Kept => bare(33),
+        }
     }
 }
 
 // What a call on a worker is answered. Of a start and a body, which have numbers of their own, it has the number alone.
-pub fn reply_numbers(reply: Reply) -> AnswerNumbers
-    ensures { result ≡ answer_numbers (worker.said_by reply) }
-{
-    match reply {
-        Reply::Started(_) => bare(34),
-        Reply::Placed(place) => with_place(35, place),
-        Reply::Served(place) => with_place(36, place),
-        Reply::Idle => bare(37),
-        Reply::InPage { at: _, length: _ } => bare(38),
-        Reply::InScratch { length: _ } => bare(39),
-        Reply::NoPlace => bare(11),
-        Reply::Answered(answer) => answer_numbers(answer),
+impl From<Reply> for AnswerNumbers {
+    ghost from_gives = { λ reply numbers. numbers ≡ answer_numbers (worker.said_by reply) };
+
+    fn from(reply: Reply) -> AnswerNumbers {
+        match reply {
+            Reply::Started(_) => bare(34),
+            Reply::Placed(place) => with_place(35, place),
+            Reply::Served(place) => with_place(36, place),
+            Reply::Idle => bare(37),
+            Reply::InPage { at: _, length: _ } => bare(38),
+            Reply::InScratch { length: _ } => bare(39),
+            Reply::NoPlace => bare(11),
+            Reply::Answered(answer) => AnswerNumbers::from(answer),
+        }
     }
 }
 
-// Where a body of some kind is.
-pub fn body_numbers(body: Body, kind: u8) -> BodyNumbers
+// Where a body of some kind is: a function, since the kind comes beside the body, and `From` takes one value.
+#[tactic(auto, using(crate::proofs::Bodies::page_numbers, crate::proofs::Bodies::scratch_numbers, crate::proofs::Bodies::refused_numbers))]
+pub fn body_numbers(body: Option<Body>, kind: u8) -> BodyNumbers
     ensures { result ≡ body_numbers (mdx_collect.said_by body) kind }
 {
     match body {
-        Body::InPage { at, length } => BodyNumbers {
+        Some(Body::InPage { at, length }) => BodyNumbers {
             at,
             length,
             number: 38,
             kind,
         },
-        Body::InScratch { length } => BodyNumbers {
+        Some(Body::InScratch { length }) => BodyNumbers {
             at: 0,
             length,
             number: 39,
             kind,
         },
-        Body::BadCall => BodyNumbers {
-            at: 0,
-            length: 0,
-            number: 12,
-            kind: 0,
-        },
+        None => bodiless(12, kind),
     }
 }
 
@@ -149,19 +148,11 @@ pub fn body_numbers(body: Body, kind: u8) -> BodyNumbers
 fn bodiless(number: u8, kind: u8) -> BodyNumbers
     ensures { result ≡ bodiless_of number kind }
 {
-    if number == 12 {
-        return BodyNumbers {
-            at: 0,
-            length: 0,
-            number,
-            kind: 0,
-        };
-    }
     BodyNumbers {
         at: 0,
         length: 0,
         number,
-        kind,
+        kind: if number == 12 { 0 } else { kind },
     }
 }
 
@@ -170,26 +161,23 @@ pub fn reply_body_numbers(reply: Reply, kind: u8) -> BodyNumbers
     ensures { result ≡ body_numbers (worker.said_by reply) kind }
 {
     match reply {
-        Reply::InPage { at, length } => body_numbers(Body::InPage { at, length }, kind),
-        Reply::InScratch { length } => body_numbers(Body::InScratch { length }, kind),
-        Reply::Started(_) => bodiless(34, kind),
-        Reply::Placed(_) => bodiless(35, kind),
-        Reply::Served(_) => bodiless(36, kind),
-        Reply::Idle => bodiless(37, kind),
-        Reply::NoPlace => bodiless(11, kind),
-        Reply::Answered(answer) => bodiless(answer_numbers(answer).number, kind),
+        Reply::InPage { at, length } => body_numbers(Some(Body::InPage { at, length }), kind),
+        Reply::InScratch { length } => body_numbers(Some(Body::InScratch { length }), kind),
+        _ => bodiless(AnswerNumbers::from(reply).number, kind),
     }
 }
 
-// How many words are enough.
-pub fn enough_numbers(enough: Enough) -> EnoughNumbers
-    ensures { result ≡ enough_numbers (enough_by enough) }
-{
-    match enough {
-        Enough::Words(words) => EnoughNumbers { words, number: 40 },
-        Enough::TooLong => EnoughNumbers {
-            words: 0,
-            number: 2,
-        },
+// How many words are enough, if any are.
+impl From<Option<usize>> for EnoughNumbers {
+    ghost from_gives = { λ enough numbers. numbers ≡ enough_numbers (enough_by enough) };
+
+    fn from(enough: Option<usize>) -> EnoughNumbers {
+        match enough {
+            Some(words) => EnoughNumbers { words, number: 40 },
+            None => EnoughNumbers {
+                words: 0,
+                number: 2,
+            },
+        }
     }
 }

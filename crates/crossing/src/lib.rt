@@ -1,6 +1,6 @@
 // Scans, workers, verdicts and answers as numbers, so that they can cross to another language and back. An enum or a bool has bit patterns
-// that it may not have, and a caller in C can hand over any: so none of them crosses. A number stands for each, and one that stands for
-// nothing is told from the others (`scan_listed`, `worker_listed`, `verdict_listed`) before anything is made of it.
+// that it may not have, and a caller in C can hand over any: so none of them crosses. A number stands for each, and of one that stands for
+// nothing nothing is made (`Unlisted`). `From` makes numbers, `TryFrom` what they stand for.
 //
 // All other fields are as wide as those that they stand for, so that nothing is cut off and nothing else needs a test: what no call can have
 // given is refused by the calls themselves. A scan's and a worker's numbers have no gap between them.
@@ -9,6 +9,10 @@
 pub mod answers;
 pub mod scans;
 pub mod workers;
+
+// One of the numbers stands for nothing.
+#[derive(Clone, Copy)]
+pub struct Unlisted;
 
 // What a call is answered: its number, and what it carries; what it does not carry is 0. `place` is the end for Done, and the number of a
 // worker's place where a page was admitted or a turn was made.

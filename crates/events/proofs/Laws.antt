@@ -20,8 +20,12 @@ use Rattle.base.specs.declared.Marks.TheVariants.{Nothing, One, Two, Three, Four
 use Rattle.base.specs.Decide.{list_of, count_of}
 use Rattle.events.specs.declared.Point.{Point}
 use Rattle.events.specs.declared.Event.{Event}
-use Rattle.events.specs.Event.{point, event, point_of, events_at}
-use Rattle.events.specs.Marks.{no_mark, mark_in}
+use Rattle.events.specs.Event.{point, event, event_at, point_of, events_at}
+use Rattle.std.specs.Prelude.{Some, None}
+use Rattle.std.specs.List.{slice_get}
+use Rattle.std.proofs.lemmas.Option.{slice_get_within, get_or_from_slice_get}
+use Rattle.std.proofs.lemmas.List.{length-take-le, take_all, take_more}
+use Rattle.events.specs.Marks.{mark_in}
 use Rattle.events.specs.Words.{width, kind_word, encode, written, mark_word, in_tab, event_in, events_in}
 
 -- ---- counts
@@ -99,32 +103,6 @@ one_written words k here past (Leave kind) = stored_is words (k * 4) (kind_word 
 
 -- ---- the marks of a step, written one by one
 
--- past the last of some marks there is none
-pub past_the_last : (l : List Mark) (i : ℕ) → length l ≤ i → get_or l i no_mark ≡ no_mark
-past_the_last [] zero h = refl
-past_the_last [] (suc i) h = refl
-past_the_last (a ∷ l) zero h = absurd (omega arith)
-past_the_last (a ∷ l) (suc i) h = past_the_last l i (omega arith)
-
--- so one that is none may stand behind them
-pub one_longer : (l : List Mark) (i : ℕ) → get_or (l ++ no_mark ∷ []) i no_mark ≡ get_or l i no_mark
-one_longer [] zero = refl
-one_longer [] (suc i) = refl
-one_longer (a ∷ l) zero = refl
-one_longer (a ∷ l) (suc i) = one_longer l i
-
--- the first n of them
-pub firsts : Marks → ℕ → List Mark
-firsts m n = take n (mark_in m 0 ∷ mark_in m 1 ∷ mark_in m 2 ∷ mark_in m 3 ∷ [])
-
-all_firsts : (m : Marks) → firsts m (count_of m) ≡ list_of m
-unfolding firsts
-all_firsts Nothing = refl
-all_firsts (One a) = refl
-all_firsts (Two a b) = refl
-all_firsts (Three a b c) = refl
-all_firsts (Four a b c d) = refl
-
 pub at_most_four : (m : Marks) → count_of m ≤ 4
 at_most_four Nothing = omega arith
 at_most_four (One a) = omega arith
@@ -132,35 +110,52 @@ at_most_four (Two a b) = omega arith
 at_most_four (Three a b c) = omega arith
 at_most_four (Four a b c d) = omega arith
 
+events_append : (here past : Point) (a b : List Mark) → events_at here past (a ++ b) ≡ events_at here past a ++ events_at here past b
+events_append here past [] b = refl
+events_append here past (x ∷ a) b = ap (λ (es : List Event). event_at here past x ∷ es) (events_append here past a b)
+
+events_long : (here past : Point) (l : List Mark) → length (events_at here past l) ≡ length l
+events_long here past [] = refl
+events_long here past (x ∷ l) = omega (arith, events_long here past l)
+
+-- where there is no mark n, there are n at the most
+none_left : (l : List Mark) (n : ℕ) → slice_get l n ≡ None → length l ≤ n
+none_left [] n e = omega arith
+none_left (x ∷ l) zero e = cc
+none_left (x ∷ l) (suc n) e = omega (arith, none_left l n e)
+
 module _ (words : List ℕ) (k : ℕ) (here past : Point) (m : Marks) where
-  -- the words with the first n events
+  -- the words with the events of the first n marks
   unfoldable pub up_to : ℕ → List ℕ
-  up_to n = written words k (events_at here past (firsts m n))
+  up_to n = written words k (events_at here past (take n (list_of m)))
 
-  pub up_to_all : (n : ℕ) → n ≡ count_of m → up_to n ≡ written words k (events_at here past (list_of m))
+  pub up_to_none : words ≡ up_to 0
   unfolding up_to
-  up_to_all n e = rw (e, all_firsts m)
+  up_to_none = sym (written_none words k)
 
-  pub up_to_none : up_to 0 ≡ words
-  unfolding up_to firsts
-  up_to_none = written_none words k
+  -- mark n is written behind those before it
+  pub up_to_more : (n i : ℕ) (before after : List ℕ) (a : Mark) → mark_in m n ≡ Some a → i ≡ k + n → before ≡ up_to n
+      → after ≡ written before i (events_at here past (a ∷ [])) → after ≡ up_to (n + 1)
+  unfolding up_to
+  up_to_more n i before after a is e b w =
+      let l = list_of m in
+      let h = slice_get_within l n a is in
+      let firsts = take n l in
+      let long : length (events_at here past firsts) ≡ n = events_long here past firsts ∙ length-take-le n l (omega (arith, h)) in
+      let more : take (n + 1) l ≡ firsts ++ a ∷ [] = take_more l n a h ∙ ap (λ (x : Mark). firsts ++ x ∷ []) (get_or_from_slice_get l n a a is) in
+      let i_is : i ≡ k + length (events_at here past firsts) = omega (arith, e, long) in
+      rw (i_is, b) at w
+      ∙ written_append words k (events_at here past firsts) (events_at here past (a ∷ []))
+      ∙ ap (written words k) (sym (events_append here past firsts (a ∷ [])) ∙ ap (events_at here past) (sym more))
 
-  module _ (before after : List ℕ) (a : Mark) where
-    pub up_to_one : before ≡ up_to 0 → after ≡ written before k (events_at here past (a ∷ [])) → a ≡ mark_in m 0 → after ≡ up_to 1
-    unfolding up_to firsts
-    up_to_one b e d = rw (d, b ∙ written_none words k) at e
+  -- and there is none behind the last
+  pub up_to_all : (n : ℕ) → mark_in m n ≡ None → up_to n ≡ written words k (events_at here past (list_of m))
+  unfolding up_to
+  up_to_all n e = ap (λ (l : List Mark). written words k (events_at here past l)) (take_all n (list_of m) (none_left (list_of m) n e))
 
-    pub up_to_two : before ≡ up_to 1 → after ≡ written before (k + 1) (events_at here past (a ∷ [])) → a ≡ mark_in m 1 → after ≡ up_to 2
-    unfolding up_to firsts
-    up_to_two b e d = rw (d, b) at e ∙ written_append words k (events_at here past (firsts m 1)) (events_at here past (mark_in m 1 ∷ []))
-
-    pub up_to_three : before ≡ up_to 2 → after ≡ written before (k + 2) (events_at here past (a ∷ [])) → a ≡ mark_in m 2 → after ≡ up_to 3
-    unfolding up_to firsts
-    up_to_three b e d = rw (d, b) at e ∙ written_append words k (events_at here past (firsts m 2)) (events_at here past (mark_in m 2 ∷ []))
-
-    pub up_to_four : before ≡ up_to 3 → after ≡ written before (k + 3) (events_at here past (a ∷ [])) → a ≡ mark_in m 3 → after ≡ up_to 4
-    unfolding up_to firsts
-    up_to_four b e d = rw (d, b) at e ∙ written_append words k (events_at here past (firsts m 3)) (events_at here past (mark_in m 3 ∷ []))
+  pub up_to_four : up_to 4 ≡ written words k (events_at here past (list_of m))
+  unfolding up_to
+  up_to_four = ap (λ (l : List Mark). written words k (events_at here past l)) (take_all 4 (list_of m) (omega (arith, events_long here past (list_of m), count_is m here past, at_most_four m)))
 
 -- ---- reading what was written
 

@@ -4,11 +4,10 @@
 use Rattle.std.specs.Prelude.{ℕ, zero, suc, ◌+◌, ◌*◌, ◌/◌, ◌%◌, Bool, true, false, List, [], ◌∷◌, eqb, get_or}
 use Rattle.std.proofs.lemmas.List.Edits.{sets}
 use Rattle.base.specs.declared.InTab.{InTab}
-use Rattle.base.specs.declared.InTab.TheVariants.{Outside, Past1, Past2, Past3}
 use Rattle.base.specs.Tab.{columns_of}
+pub use Rattle.base.specs.Tab.{in_tab}
 use Rattle.base.specs.declared.Mark.{Mark}
 use Rattle.base.specs.declared.Mark.TheVariants.{Enter, Exit, Leave}
-use Rattle.base.specs.If.{when◌then◌else◌}
 use Rattle.events.specs.declared.Event.{Event}
 use Rattle.events.specs.Event.{point, event}
 
@@ -41,10 +40,6 @@ mark_word (Exit kind) tab = kind_word kind tab true
 mark_word (Leave kind) tab = kind_word kind tab true
 
 -- ---- reading
-
--- so many columns of a tab
-abbrev pub in_tab : ℕ → InTab
-in_tab columns = when eqb columns 0 then Outside else when eqb columns 1 then Past1 else when eqb columns 2 then Past2 else Past3
 
 -- event k of a buffer
 abbrev pub event_in : List ℕ → ℕ → Event

@@ -3,10 +3,9 @@
 
 ghost use Rattle.std.specs.Prelude.{◌≡◌, [], ◌∷◌, ◌+◌, ◌*◌, ◌≤◌, length, get_or};
 ghost use Rattle.base.specs.Decide.{count_of, list_of};
-ghost use Rattle.base.specs.Tab.{columns_of};
 ghost use Rattle.events.specs.Event.{point_of, events_at};
-ghost use Rattle.events.specs.Marks.{no_mark, mark_in};
-ghost use Rattle.events.specs.Words.{room_in, mark_word, written, in_tab, event_in};
+ghost use Rattle.events.specs.Marks.{mark_in};
+ghost use Rattle.events.specs.Words.{room_in, mark_word, written, event_in};
 
 use base::{InTab, Mark, Marks};
 
@@ -63,19 +62,7 @@ pub fn count(marks: Marks) -> usize
 fn word_at(words: &[u32], i: usize) -> u32
     ensures { result ≡ get_or words.now i 0 }
 {
-    if i < words.len() { words[i] } else { 0 }
-}
-
-// So many columns of a tab.
-fn in_tab(columns: u32) -> InTab
-    ensures { result ≡ in_tab columns }
-{
-    match columns {
-        0 => InTab::Outside,
-        1 => InTab::Past1,
-        2 => InTab::Past2,
-        _ => InTab::Past3,
-    }
+    words.get(i).copied().unwrap_or(0)
 }
 
 // Event k of a buffer. What stands past the end is read as 0.
@@ -97,7 +84,7 @@ pub fn read(words: &[u32], k: usize) -> Event
     let offset = word_at(words, i + 1);
     let line = word_at(words, i + 2);
     let column = word_at(words, i + 3);
-    let tab = in_tab(first / 2 % 4);
+    let tab = InTab::past((first / 2 % 4) as u8);
     Event {
         kind: first / 8,
         exit: first % 2 == 1,
@@ -110,37 +97,19 @@ pub fn read(words: &[u32], k: usize) -> Event
 
 // ---- writing
 
-fn wide(kind: u8) -> u32
-    ensures { result ≡ kind }
-{
-    kind as u32
-}
-
-// Twice the columns that are passed of a tab.
-fn tab_bits(tab: InTab) -> u32
-    ensures { (result ≡ columns_of tab * 2) × (result ≤ 6) }
-{
-    match tab {
-        InTab::Outside => 0,
-        InTab::Past1 => 2,
-        InTab::Past2 => 4,
-        InTab::Past3 => 6,
-    }
-}
-
-// The first word of a mark's event, so far inside a tab.
+// The first word of a mark's event, so far inside a tab. Here and in `point_of` each mark has an arm: with two in one, tags cost a twentieth more.
 fn kind_word(mark: Mark, tab: InTab) -> u32
     ensures { result ≡ mark_word mark tab }
 {
-    let bits = tab_bits(tab);
+    let bits = u32::from(tab.columns()) * 2;
     match mark {
-        Mark::Enter(kind) => wide(kind) * 8 + bits,
-        Mark::Exit(kind) => wide(kind) * 8 + bits + 1,
-        Mark::Leave(kind) => wide(kind) * 8 + bits + 1,
+        Mark::Enter(kind) => u32::from(kind) * 8 + bits,
+        Mark::Exit(kind) => u32::from(kind) * 8 + bits + 1,
+        Mark::Leave(kind) => u32::from(kind) * 8 + bits + 1,
     }
 }
 
-// Where the event of a mark stands: at the step's place, or one byte past it.
+// Where the event of a mark stands: at the step's place, or one byte past it. The two stay two parameters, as they are in `events_at`.
 fn point_of(here: Point, past: Point, mark: Mark) -> Point
     ensures { result ≡ point_of here past mark }
 {
@@ -166,32 +135,17 @@ fn put_one(words: &mut [u32], k: usize, here: Point, past: Point, mark: Mark)
     words[i + 3] = point.column;
 }
 
-// No mark: what is read past a step's last one.
-const NO_MARK: Mark = Mark::Enter(0);
-
-// One of four marks.
-fn one_of(i: usize, a: Mark, b: Mark, c: Mark, d: Mark) -> Mark
-    ensures { result ≡ get_or (a ∷ b ∷ c ∷ d ∷ []) i no_mark }
-{
-    match i {
-        0 => a,
-        1 => b,
-        2 => c,
-        3 => d,
-        _ => NO_MARK,
-    }
-}
-
-// Mark i of a step.
-fn mark_in(marks: Marks, i: usize) -> Mark
+// Mark i of a step, where it has so many.
+fn mark_in(marks: Marks, i: usize) -> Option<Mark>
     ensures { result ≡ mark_in marks i }
 {
-    match marks {
-        Marks::Nothing => NO_MARK,
-        Marks::One(a) => one_of(i, a, NO_MARK, NO_MARK, NO_MARK),
-        Marks::Two(a, b) => one_of(i, a, b, NO_MARK, NO_MARK),
-        Marks::Three(a, b, c) => one_of(i, a, b, c, NO_MARK),
-        Marks::Four(a, b, c, d) => one_of(i, a, b, c, d),
+    match (marks, i) {
+        (Marks::One(a) | Marks::Two(a, _) | Marks::Three(a, _, _) | Marks::Four(a, _, _, _), 0) =>
+            Some(a),
+        (Marks::Two(_, b) | Marks::Three(_, b, _) | Marks::Four(_, b, _, _), 1) => Some(b),
+        (Marks::Three(_, _, c) | Marks::Four(_, _, c, _), 2) => Some(c),
+        (Marks::Four(_, _, _, d), 3) => Some(d),
+        _ => None,
     }
 }
 
@@ -201,21 +155,20 @@ pub fn put(words: &mut [u32], k: usize, here: Point, past: Point, marks: Marks)
     requires { (k + count_of marks) * 4 ≤ length words.old }
     ensures { words.new ≡ written words.old k (events_at here past (list_of marks)) }
 {
-    let n = count(marks);
-    if n < 1 {
+    let Some(first) = mark_in(marks, 0) else {
         return;
-    }
-    put_one(words, k, here, past, mark_in(marks, 0));
-    if n < 2 {
+    };
+    put_one(words, k, here, past, first);
+    let Some(second) = mark_in(marks, 1) else {
         return;
-    }
-    put_one(words, k + 1, here, past, mark_in(marks, 1));
-    if n < 3 {
+    };
+    put_one(words, k + 1, here, past, second);
+    let Some(third) = mark_in(marks, 2) else {
         return;
-    }
-    put_one(words, k + 2, here, past, mark_in(marks, 2));
-    if n < 4 {
+    };
+    put_one(words, k + 2, here, past, third);
+    let Some(fourth) = mark_in(marks, 3) else {
         return;
-    }
-    put_one(words, k + 3, here, past, mark_in(marks, 3));
+    };
+    put_one(words, k + 3, here, past, fourth);
 }

@@ -5,6 +5,7 @@ ghost use Rattle.events.specs.Room.{words_for, held_in};
 use crate::WIDTH;
 
 // Of a buffer of `most` words, those for so many events: all of them, where there are no more.
+#[tactic(auto, using(base::proofs::Choice::picks))]
 pub fn words_for(room: usize, most: usize) -> usize
     ensures value { result ≡ words_for room most }
     ensures upper_bound { result ≤ most }
@@ -17,12 +18,9 @@ pub fn words_for(room: usize, most: usize) -> usize
 }
 
 // Of so many events, as many as a buffer of so many words holds.
+#[tactic(auto, using(base::proofs::Choice::picks))]
 pub fn held(count: usize, words: usize) -> usize
     ensures { result ≡ held_in count words }
 {
-    if count < words / WIDTH {
-        count
-    } else {
-        words / WIDTH
-    }
+    count.min(words / WIDTH)
 }

@@ -8,8 +8,8 @@ mod arguments;
 mod reading;
 mod scanning;
 
-use arguments::{Asked, ReadArguments, read_arguments};
-use reading::{ReadPage, read_page};
+use arguments::{Asked, read_arguments};
+use reading::read_page;
 use report::{Told, tell};
 use scanning::answer_of;
 use std::io::Read;
@@ -55,8 +55,8 @@ fn list(
     out: &mut [u8],
 ) {
     match read_arguments(rt) {
-        ReadArguments::Good(asked) => list_input(rt, source, errors, asked, space, words, out),
-        ReadArguments::Bad => report::give_up(rt, errors, b"usage: listing [START [f|t]]\n"),
+        Some(asked) => list_input(rt, source, errors, asked, space, words, out),
+        None => report::give_up(rt, errors, b"usage: listing [START [f|t]]\n"),
     }
 }
 
@@ -70,11 +70,11 @@ fn list_input(
     out: &mut [u8],
 ) {
     match read_page(source, space) {
-        ReadPage::Read(read) => {
-            let count = text::least(read, space.len());
+        Ok(read) => {
+            let count = read.min(space.len());
             list_page(rt, asked, &space[0..count], words, out)
         }
-        ReadPage::Failed => report::give_up(rt, errors, b"listing: standard input can't be read\n"),
+        Err(_) => report::give_up(rt, errors, b"listing: standard input can't be read\n"),
     }
 }
 
@@ -96,7 +96,10 @@ fn list_page(
 
 fn list_answer(rt: &(impl Files + Print), told: Told, words: &[u32], out: &mut [u8]) {
     let used = first_line(out, told);
-    let used = report::put_event_lines(rt, out, used, words, told.events);
+    let used = match told.tally {
+        Some(tally) => report::put_event_lines(rt, out, used, words, tally.events),
+        None => used,
+    };
     report::flush(rt, out, used);
     report::say_status(rt, if told.number == 0 { 0 } else { 1 });
 }
@@ -105,7 +108,7 @@ fn list_answer(rt: &(impl Files + Print), told: Told, words: &[u32], out: &mut [
 fn first_line(out: &mut [u8], told: Told) -> usize {
     let end = report::answer_text(out, 0, told, b" ");
     report::in_small(&mut out[0..end]);
-    let at = report::value(out, end, told.counted, told.steps);
-    let at = report::value(out, at, told.counted, told.events);
+    let at = report::value(out, end, told.tally.map(|tally| tally.steps));
+    let at = report::value(out, at, told.tally.map(|tally| tally.events));
     report::text(out, at, b"\n")
 }

@@ -4,6 +4,7 @@ use native.Mathlib.Omega.{arith}
 use mathlib.Core.Path.{◌≡◌}
 use mathlib.Core.Bool.{true, false}
 use mathlib.Core.List.{List}
+use Rattle.std.specs.Prelude.{Option, Some, None}
 use lib.Dec.{eqb}
 use lib.ListN.{length}
 use borrow.Author.Tests.{eqb-true}
@@ -16,7 +17,7 @@ use Rattle.scan.specs.declared.Scan.{Scan}
 use Rattle.scan.specs.Call.{scan_in_range}
 use Rattle.scan.proofs.Ranged.{ranged}
 use Rattle.mdx_collect.specs.declared.Body.{Body}
-use Rattle.mdx_collect.specs.declared.Body.TheVariants.{InPage, BadCall}
+use Rattle.mdx_collect.specs.declared.Body.TheVariants.{InPage}
 use Rattle.mdx_collect.specs.Collect.{first, seam, only_prefix, asks_in, asked, collected_by, copied_of, collect_of}
 
 -- the page has the scan's length, and the scan is in range
@@ -36,15 +37,15 @@ asks s n e =
     record { long = l; range = b.1; at = omega (arith, p.at, l); short = omega (arith, p.short, l) }
 
 module _ (page : List ℕ) (s : Scan) (scratch : List ℕ) where
-  pub not_asked : asked s (length page) ≡ false → collected_by BadCall scratch ≡ collect_of page s scratch
+  pub not_asked : asked s (length page) ≡ false → collected_by None scratch ≡ collect_of page s scratch
   unfolding collect_of when◌then◌else◌
   not_asked e = rw e
 
   module _ (from end : ℕ) (a : asked s (length page) ≡ true) (f : from ≡ first s) (g : end ≡ seam s) where
-    pub in_page : (n : ℕ) → n ≡ end - from → only_prefix page end s.tokenizer.at ≡ true → collected_by (InPage from n) scratch ≡ collect_of page s scratch
+    pub in_page : (n : ℕ) → n ≡ end - from → only_prefix page end s.tokenizer.at ≡ true → collected_by (Some (InPage from n)) scratch ≡ collect_of page s scratch
     unfolding collect_of when◌then◌else◌
     in_page n h o = rw (h, f, g) (rw (a, rw g at o))
 
-    pub in_scratch : (r : Body) (out : List ℕ) → only_prefix page end s.tokenizer.at ≡ false → collected_by r out ≡ copied_of (expression_cells page from s.tokenizer.at) scratch → collected_by r out ≡ collect_of page s scratch
+    pub in_scratch : (r : Option Body) (out : List ℕ) → only_prefix page end s.tokenizer.at ≡ false → collected_by r out ≡ copied_of (expression_cells page from s.tokenizer.at) scratch → collected_by r out ≡ collect_of page s scratch
     unfolding collect_of when◌then◌else◌
     in_scratch r out o e = rw (a, rw g at o) (rw f at e)

@@ -6,8 +6,12 @@ use mathlib.Core.Path.{◌≡◌, refl, sym, ap, ◌∙◌}
 use mathlib.Core.Bool.{true, false}
 use mathlib.Core.List.{List, [], ◌∷◌, ◌++◌}
 use lib.Dec.{ltb, eqb}
-use lib.ListN.{length, set, length-append, length-map}
+use lib.ListN.{length, set, replicate, length-append, length-map}
 use lib.Seq.{sets}
+use borrow.Rule.Slice.PartMut.{put_mid}
+use Rattle.std.proofs.lemmas.List.Edits.{sets-eq}
+use Rattle.std.proofs.lemmas.List.{take_all}
+use Rattle.std.proofs.lemmas.Slice.{put_mid-paste}
 use borrow.Author.Tests.{eq-eqb, ne_eqb, ltb-true}
 use Rattle.base.specs.If.{when◌then◌else◌}
 use Rattle.base.proofs.Choice.{case, both, and_no', and_yes}
@@ -117,16 +121,18 @@ module _ (page out : List ℕ) (left at to n : ℕ) (h : at < to) where
 pub all_put : (page out : List ℕ) (left at to n : ℕ) → to ≤ at → sets out n (bytes_left page left at to) ≡ out
 all_put page out left at to n h = rw (bytes_over page left at to h)
 
--- spaces, one at a time
-pub one_filled : (out : List ℕ) (at end : ℕ) → at < end → sets out at (spaces (end - at)) ≡ sets (set out at space) (at + 1) (spaces (end - (at + 1)))
-one_filled out at end h =
-    let e : end - at ≡ suc (end - (at + 1)) = omega arith in
-    rw (e, add-one at)
+-- spaces, all at once
+spaces_are : (n : ℕ) → spaces n ≡ replicate n space
+spaces_are zero = refl
+spaces_are (suc n) = ap (λ (l : List ℕ). space ∷ l) (spaces_are n)
 
-pub all_filled : (out : List ℕ) (at end : ℕ) → end ≤ at → sets out at (spaces (end - at)) ≡ out
-all_filled out at end h =
-    let e : end - at ≡ 0 = omega arith in
-    rw e
+pub filled : (out part : List ℕ) (from end : ℕ) → from ≤ end → end ≤ length out → part ≡ replicate (end - from) space → put_mid from (end - from) out part ≡ sets out from (spaces (end - from))
+filled out part from end h g e =
+    let blanks = spaces (end - from) in
+    let l = spaces_long (end - from) in
+    let t = take_all (end - from) blanks (omega (arith, l)) in
+    put_mid-paste from (end - from) out part blanks (end - from) (e ∙ sym (spaces_are (end - from))) refl (sym l)
+    ∙ rw t (sym (rw l at (sets-eq blanks out from (omega (arith, l)))))
 
 -- ---- nothing but a line prefix
 

@@ -7,7 +7,7 @@
 --
 -- The crate collects the events (`util/mdx_collect.rs`). That what is said here is the same, for every scan that calls gave, is the theorem
 -- `the_body_is_what_the_events_say` of crate `body_theorems`.
-use Rattle.std.specs.Prelude.{ℕ, ◌+◌, ◌-◌, ◌/◌, ◌≤◌, ◌≡◌, Bool, true, false, ◌&&◌, ◌||◌, List, [], ◌∷◌, leb, eqb, length}
+use Rattle.std.specs.Prelude.{ℕ, ◌+◌, ◌-◌, ◌/◌, ◌≤◌, ◌≡◌, Bool, true, false, ◌&&◌, ◌||◌, List, [], ◌∷◌, leb, eqb, length, Option, Some, None}
 use Rattle.std.proofs.lemmas.List.Edits.{sets}
 use Rattle.base.specs.If.{when◌then◌else◌}
 use Rattle.base.specs.Number as number
@@ -19,20 +19,19 @@ use Rattle.scan.specs.declared.Scan.{Scan}
 use Rattle.scan.specs.Answer.{Said, said, refused}
 use Rattle.scan.specs.Call.{scan_in_range, verdict_state}
 use Rattle.mdx_collect.specs.declared.Body.{Body}
-use Rattle.mdx_collect.specs.declared.Body.TheVariants.{InPage, InScratch, BadCall}
+use Rattle.mdx_collect.specs.declared.Body.TheVariants.{InPage, InScratch}
 
 -- ---- the answers, by number and values
 
-abbrev pub said_by : Body → Said
-said_by (InPage at n) = said 38 (at ∷ n ∷ [])
-said_by (InScratch n) = said 39 (n ∷ [])
-said_by BadCall = said 12 []
+abbrev pub said_by : Option Body → Said
+said_by (Some (InPage at n)) = said 38 (at ∷ n ∷ [])
+said_by (Some (InScratch n)) = said 39 (n ∷ [])
+said_by None = said 12 []
 
 -- it is no refusal
-abbrev pub handed_over : Body → Bool
-handed_over (InPage at n) = true
-handed_over (InScratch n) = true
-handed_over BadCall = false
+abbrev pub handed_over : Option Body → Bool
+handed_over (Some body) = true
+handed_over None = false
 
 -- ---- where the body is
 
@@ -87,7 +86,7 @@ abbrev pub collected : Said → List ℕ → Collected
 collected answer scratch = record { answer = answer; scratch = scratch }
 
 -- as the code hands it back
-abbrev pub collected_by : Body → List ℕ → Collected
+abbrev pub collected_by : Option Body → List ℕ → Collected
 collected_by b scratch = collected (said_by b) scratch
 
 -- the body copied to the front of the scratch
@@ -109,10 +108,10 @@ collect_of page s scratch =
 abbrev pub piece_of : List ℕ → ℕ → ℕ → List ℕ
 piece_of bytes at n = when lies_inside (length bytes) at n then page_of bytes at n else []
 
-abbrev pub part_of : List ℕ → List ℕ → Body → List ℕ
-part_of page scratch (InPage at n) = piece_of page at n
-part_of page scratch (InScratch n) = piece_of scratch 0 n
-part_of page scratch BadCall = []
+abbrev pub part_of : List ℕ → List ℕ → Option Body → List ℕ
+part_of page scratch (Some (InPage at n)) = piece_of page at n
+part_of page scratch (Some (InScratch n)) = piece_of scratch 0 n
+part_of page scratch None = []
 
 -- how long a scratch is always enough for a page of n bytes: a half more, since a tab that is split may be longer than it was
 abbrev pub scratch_enough : ℕ → ℕ
@@ -128,6 +127,6 @@ ScratchEnough =
 -- what is read after a call that is not refused is the body: for every page, state and scratch
 abbrev pub PartIsBody : Type 0
 PartIsBody =
-    (page : List ℕ) (s : Scan) (scratch : List ℕ) (b : Body) (out : List ℕ)
+    (page : List ℕ) (s : Scan) (scratch : List ℕ) (b : Option Body) (out : List ℕ)
     → collected_by b out ≡ collect_of page s scratch
     → handed_over b ≡ true → part_of page out b ≡ body_of page s

@@ -8,6 +8,8 @@ use crate::is_asked;
 use base::state;
 use scan::Scan;
 
+// The kinds are numbers, and 0 is none, since they cross to C as they are, in `View` and `BodyNumbers`.
+//
 // The scan asks about nothing.
 pub const NO_BODY: u8 = 0;
 
@@ -24,6 +26,7 @@ pub const ESM_BODY: u8 = 4;
 //
 //     > | {a}     > | <b {...a} />     > | <b c={a} />
 //         ^ 1                ^ 2                  ^ 3
+#[tactic(auto, using(base::proofs::Choice::picks))]
 fn expression_kind(text: u8, back: u8) -> u8
     ensures { result ≡ kind_of_token (expression_token text back) }
 {
@@ -37,6 +40,7 @@ fn expression_kind(text: u8, back: u8) -> u8
 }
 
 // The kind of the body that `collect` hands over; 0 where the scan does not ask.
+#[tactic(auto, using(base::proofs::Choice::picks), unfolding(crate::specs::Kind::body_kind))]
 pub fn kind_of(scan: Scan) -> u8
     ensures { result ≡ body_kind scan }
 {

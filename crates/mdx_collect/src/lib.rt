@@ -23,10 +23,10 @@ const SPACE: u8 = 32;
 pub enum Body {
     InPage { at: usize, length: usize },
     InScratch { length: usize },
-    BadCall,
 }
 
 // Where the body begins.
+#[tactic(auto, using(base::proofs::Choice::picks))]
 fn first_of(scan: Scan) -> usize
     ensures { result ≡ first scan }
 {
@@ -38,6 +38,7 @@ fn first_of(scan: Scan) -> usize
 }
 
 // A place of the body before which no line prefix stands: that of the first one, or the one that asks.
+#[tactic(auto, using(base::proofs::Choice::picks))]
 fn seam_of(scan: Scan) -> usize
     ensures { result ≡ seam scan }
 {
@@ -56,7 +57,7 @@ fn seam_of(scan: Scan) -> usize
 //     > | {a
 //     > |   }
 //         ^^ from, to: the prefix before the `}` that asks
-#[tactic(auto, using(crate::proofs::Laws::nothing, crate::proofs::Laws::longer))]
+#[tactic(auto, using(crate::proofs::Laws::nothing, crate::proofs::Laws::longer, crate::proofs::Laws::begun, crate::proofs::Laws::one_blank, crate::proofs::Laws::two_blanks))]
 fn only_prefix(page: &[u8], from: usize, to: usize) -> bool
     ensures { result ≡ only_prefix page.now from to }
 {
@@ -86,6 +87,7 @@ fn is_asking(name: u8, construct: u8) -> bool
 }
 
 // Whether the scan asks, over a page of n bytes.
+#[tactic(auto, using(base::proofs::Choice::picks), unfolding(crate::specs::Collect::asked))]
 fn is_asked(scan: Scan, n: usize) -> bool
     ensures { result ≡ asked scan n }
 {
@@ -100,58 +102,51 @@ fn is_asked(scan: Scan, n: usize) -> bool
 }
 
 // How many bytes the body between the two places has, its line prefixes left out.
+#[tactic(auto, using(crate::proofs::Laws::passed_over, crate::proofs::Laws::split_over, crate::proofs::Laws::counted, crate::proofs::Laws::all_counted))]
 fn count(page: &[u8], from: usize, to: usize) -> usize
     requires { (to ≤ length page.now) × (length page.now ≤ page_limit) }
     ensures { result ≡ length (expression_cells page.now from to) }
 {
-    let mut at = from;
     let mut left: u8 = 0;
     let mut n: usize = 0;
-    while at < to {
+    for at in from..to {
         let b = byte_at(page, at);
         if body_places::in_prefix(b, left) {
-            left = left - 1;
-            at = at + 1;
+            left -= 1;
             continue;
         }
         if body_places::splits(b, left) {
-            n = n + body_places::spaces(left);
+            n += body_places::spaces(left);
             left = 0;
-            at = at + 1;
             continue;
         }
-        n = n + 1;
+        n += 1;
         left = body_places::prefix_after(b);
-        at = at + 1;
     }
     n
 }
 
 // Spaces, up to a place of the scratch.
+#[tactic(auto, using(crate::proofs::Laws::filled))]
 fn fill(scratch: &mut [u8], from: usize, end: usize)
     requires { (from ≤ end) × (end ≤ length scratch.old) }
     ensures { scratch.new ≡ sets scratch.old from (spaces (end - from)) }
 {
-    let mut at = from;
-    while at < end {
-        scratch[at] = SPACE;
-        at = at + 1;
-    }
+    scratch[from..end].fill(SPACE);
 }
 
 // Those bytes, one after the other, to the front of the scratch.
+#[tactic(auto, using(crate::proofs::Copying::spaces_put, crate::proofs::Laws::split_over, crate::proofs::Laws::counted, crate::proofs::Laws::all_put))]
 fn copy(page: &[u8], from: usize, end: usize, scratch: &mut [u8])
     requires { (end ≤ length page.now) × (length (expression_cells page.now from end) ≤ length scratch.old) }
     ensures { scratch.new ≡ sets scratch.old 0 (bytes_of (expression_cells page.now from end)) }
 {
-    let mut at = from;
     let mut left: u8 = 0;
     let mut n: usize = 0;
-    while at < end {
+    for at in from..end {
         let b = byte_at(page, at);
         if body_places::in_prefix(b, left) {
-            left = left - 1;
-            at = at + 1;
+            left -= 1;
             continue;
         }
         if body_places::splits(b, left) {
@@ -159,67 +154,61 @@ fn copy(page: &[u8], from: usize, end: usize, scratch: &mut [u8])
             fill(scratch, n, next);
             n = next;
             left = 0;
-            at = at + 1;
             continue;
         }
         scratch[n] = page[at];
-        n = n + 1;
+        n += 1;
         left = body_places::prefix_after(b);
-        at = at + 1;
     }
 }
 
 // The body between the two places, copied to the scratch if it fits there.
-fn copied(page: &[u8], from: usize, to: usize, scratch: &mut [u8]) -> Body
+#[tactic(auto, using(base::proofs::Choice::picks))]
+fn copied(page: &[u8], from: usize, to: usize, scratch: &mut [u8]) -> Option<Body>
     requires { (to ≤ length page.now) × (length page.now ≤ page_limit) }
     ensures { collected_by result scratch.new ≡ copied_of (expression_cells page.now from to) scratch.old }
 {
     let length = count(page, from, to);
     if scratch.len() < length {
-        return Body::BadCall;
+        return None;
     }
     copy(page, from, to, scratch);
-    Body::InScratch { length }
+    Some(Body::InScratch { length })
 }
 
 // Where the body of the asking scan is. Where no line prefix stands between two of its bytes it is a part of the page, found without a
-// loop; else it is copied to the scratch, whose other bytes stay as they are.
-pub fn collect(scan: Scan, page: &[u8], scratch: &mut [u8]) -> Body
+// loop; else it is copied to the scratch, whose other bytes stay as they are. Nothing, where the call is refused: 12.
+#[tactic(auto, using(crate::proofs::Calls::not_asked, crate::proofs::Calls::in_page, crate::proofs::Calls::asks))]
+pub fn collect(scan: Scan, page: &[u8], scratch: &mut [u8]) -> Option<Body>
     ensures { collected_by result scratch.new ≡ collect_of page.now scan scratch.old }
 {
     if !is_asked(scan, page.len()) {
-        return Body::BadCall;
+        return None;
     }
     let from = first_of(scan);
     let end = seam_of(scan);
     if only_prefix(page, end, scan.tokenizer.at) {
-        return Body::InPage {
+        return Some(Body::InPage {
             at: from,
-            length: distance(from, end),
-        };
+            length: end.saturating_sub(from),
+        });
     }
     copied(page, from, scan.tokenizer.at, scratch)
 }
 
-// How far it is from one place to another; nothing backwards.
-fn distance(from: usize, to: usize) -> usize
-    ensures { result ≡ to - from }
-{
-    if to < from { 0 } else { to - from }
-}
-
 // The body itself, as `collect` said where it is: a part of the page or of the scratch.
-pub fn part<'a>(page: &'a [u8], scratch: &'a [u8], body: Body) -> &'a [u8]
+pub fn part<'a>(page: &'a [u8], scratch: &'a [u8], body: Option<Body>) -> &'a [u8]
     ensures { result.now ≡ part_of page.now scratch.now body }
 {
     match body {
-        Body::InPage { at, length } => piece(page, at, length),
-        Body::InScratch { length } => piece(scratch, 0, length),
-        Body::BadCall => piece(page, 0, 0),
+        Some(Body::InPage { at, length }) => piece(page, at, length),
+        Some(Body::InScratch { length }) => piece(scratch, 0, length),
+        None => &page[0..0],
     }
 }
 
 // So many bytes from a place on; none, where they are not there.
+#[tactic(auto, using(base::proofs::Choice::picks))]
 pub fn piece<'a>(bytes: &'a [u8], at: usize, length: usize) -> &'a [u8]
     ensures { result.now ≡ piece_of bytes.now at length }
 {

@@ -1,26 +1,17 @@
 // `import` and `export` blocks: the states of `mdx_esm.rs`, and the look-ahead for a blank line.
-#![tactic(auto)]
+#![tactic(auto, using(base::proofs::Choice::picks))]
 
-ghost use Rattle.std.specs.Prelude.{◌≡◌, ◌+◌, ◌<◌, ◌^◌, length};
+ghost use Rattle.std.specs.Prelude.{◌≡◌};
 ghost use Rattle.mdx_esm.specs.Esm as esm;
-ghost use Rattle.mdx_esm.specs.Word.{spells, is_word};
+ghost use Rattle.mdx_esm.specs.Word.{is_word};
 
-use base::{
-    Effect, Mark, Marks, Move, Verdict, byte, byte_at, eat, kind, retry, retry_with, state, wide,
-};
+use base::{Effect, Mark, Marks, Move, Verdict, byte, eat, kind, retry, retry_with, state};
 
 // Whether a block may begin at this byte.
 fn begins(b: u16, allowed: bool) -> bool
     ensures { result ≡ esm.begins b allowed }
 {
-    if allowed {
-        match b {
-            byte::SMALL_E | byte::SMALL_I => true,
-            _ => false,
-        }
-    } else {
-        false
-    }
+    allowed && matches!(b, byte::SMALL_E | byte::SMALL_I)
 }
 
 // Start of a block. It is allowed where a verdict source is at hand, nothing is interrupted, and the column is 1.
@@ -39,13 +30,11 @@ pub fn start(b: u16, allowed: bool) -> Move
 }
 
 // A lower-case letter.
+#[tactic(auto, using(base::proofs::Choice::picks, base::proofs::Ranges::ranges))]
 fn in_word(b: u16) -> bool
     ensures { result ≡ esm.in_word b }
 {
-    match b {
-        byte::SMALL_A..=byte::SMALL_Z => true,
-        _ => false,
-    }
+    matches!(b, byte::SMALL_A..=byte::SMALL_Z)
 }
 
 // The space that must follow `export` or `import`.
@@ -75,10 +64,7 @@ pub fn word(b: u16, is_word: bool) -> Move
 pub fn line_ends(b: u16) -> bool
     ensures { result ≡ esm.line_ends b }
 {
-    match b {
-        byte::LINE_FEED | byte::END_OF_PAGE => true,
-        _ => false,
-    }
+    matches!(b, byte::LINE_FEED | byte::END_OF_PAGE)
 }
 
 // In a line.
@@ -228,35 +214,12 @@ pub fn verdict(v: Verdict, b: u16, after_line_feed: bool, place: usize) -> Move
     }
 }
 
-// Whether the page has the word at a place.
-fn has_word(page: &[u8], word: &[u8], at: usize) -> bool
-    requires { at + length word.now < 2 ^ 64 }
-    ensures { result ≡ spells page.now word.now at }
-{
-    let mut k: usize = 0;
-    while k < word.len() {
-        let b = byte_at(page, at + k);
-        let w = wide(word[k]);
-        if b != w {
-            return false;
-        }
-        k = k + 1;
-    }
-    true
-}
-
 // Whether the bytes from the start of the block up to a place are `export` or `import`.
 pub fn is_word(page: &[u8], start: usize, at: usize) -> bool
     ensures { result ≡ is_word page.now start at }
 {
-    if at < start {
-        return false;
+    match page.get(start..at) {
+        Some(word) => word == b"export".as_slice() || word == b"import".as_slice(),
+        None => false,
     }
-    if at - start != 6 {
-        return false;
-    }
-    if has_word(page, b"export", start) {
-        return true;
-    }
-    has_word(page, b"import", start)
 }

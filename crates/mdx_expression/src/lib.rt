@@ -1,6 +1,6 @@
 // From `{` to its `}`: the states of `partial_mdx_expression.rs`. Each is handed the byte at its place and the registers that it
 // reads, and hands back one decision.
-#![tactic(auto)]
+#![tactic(auto, using(base::proofs::Choice::picks))]
 
 ghost use Rattle.std.specs.Prelude.{◌≡◌};
 ghost use Rattle.mdx_expression.specs.Expression as expression;
@@ -27,13 +27,7 @@ fn closes(b: u16, depth: u32) -> bool
 fn stops(b: u16, depth: u32) -> bool
     ensures { result ≡ expression.stops b depth }
 {
-    if b == byte::END_OF_PAGE {
-        return true;
-    }
-    if b == byte::LINE_FEED {
-        return true;
-    }
-    closes(b, depth)
+    b == byte::END_OF_PAGE || b == byte::LINE_FEED || closes(b, depth)
 }
 
 // The closing brace: the expression is over, and its caller, if it has one, goes on.
@@ -73,7 +67,6 @@ pub fn start(b: u16, token: u8) -> Move
 //
 //     > | a {Math.PI} c
 //            ^
-#[tactic(auto, using(base::proofs::Choice::picks))]
 pub fn before(b: u16, depth: u32, asks: bool, last: u32, token: u8, back: u8) -> Move
     ensures { result ≡ expression.before b depth asks last token back }
 {
@@ -148,20 +141,14 @@ pub fn eol_after(b: u16) -> Move
 fn prefix_goes_on(b: u16, size: u8) -> bool
     ensures { result ≡ expression.prefix_goes_on b size }
 {
-    if PREFIX_SIZE <= size {
-        return false;
-    }
-    b == byte::SPACE
+    size < PREFIX_SIZE && b == byte::SPACE
 }
 
 // Whether such a prefix ends inside a tab.
 fn prefix_in_tab(b: u16, size: u8) -> bool
     ensures { result ≡ expression.prefix_in_tab b size }
 {
-    if PREFIX_SIZE <= size {
-        return false;
-    }
-    b == byte::TAB
+    size < PREFIX_SIZE && b == byte::TAB
 }
 
 // The columns of that tab which are the prefix's.

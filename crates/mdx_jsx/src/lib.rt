@@ -1,6 +1,6 @@
 // One tag, from `<` to `>`: the start, the end, the white space between, and what the states of names and attributes share. The
 // Rust is `partial_mdx_jsx.rs`.
-#![tactic(auto)]
+#![tactic(auto, using(base::proofs::Choice::picks))]
 
 ghost use Rattle.std.specs.Prelude.{◌≡◌};
 ghost use Rattle.mdx_jsx.specs.Jsx as jsx;
@@ -22,30 +22,21 @@ pub fn crash(at: u8, note: u8) -> Move
 pub fn whitespace_or_end(b: u16) -> bool
     ensures { result ≡ jsx.whitespace_or_end b }
 {
-    if b == byte::END_OF_PAGE {
-        return true;
-    }
-    char_class::whitespace(b)
+    b == byte::END_OF_PAGE || char_class::whitespace(b)
 }
 
 // What may follow a name: the slash that ends the tag, its end, an expression.
 pub fn tag_goes_on(b: u16) -> bool
     ensures { result ≡ jsx.tag_goes_on b }
 {
-    match b {
-        byte::SLASH | byte::GREATER_THAN | byte::LEFT_BRACE => true,
-        _ => false,
-    }
+    matches!(b, byte::SLASH | byte::GREATER_THAN | byte::LEFT_BRACE)
 }
 
 // What follows a whole name: the end of the tag, an expression, an attribute.
 pub fn name_followed(b: u16) -> bool
     ensures { result ≡ jsx.name_followed b }
 {
-    if tag_goes_on(b) {
-        return true;
-    }
-    char_class::id_start(b)
+    tag_goes_on(b) || char_class::id_start(b)
 }
 
 // White space may stand at this byte; then comes `back`.
@@ -112,9 +103,7 @@ const NO_TAG: u8 = state::NOK;
 pub fn start_after(b: u16) -> Move
     ensures { result ≡ jsx.start_after b }
 {
-    if char_class::space_or_tab(b) {
-        retry(NO_TAG, Marks::Nothing)
-    } else if b == byte::LINE_FEED {
+    if char_class::space_or_tab(b) || b == byte::LINE_FEED {
         retry(NO_TAG, Marks::Nothing)
     } else {
         whitespace_here(Marks::Nothing, state::MDX_JSX_NAME_BEFORE)

@@ -1,4 +1,6 @@
 // The where-numbers and the notes that a tag's refusal carries.
+// Numbers, and no enums: an answer hands them to C, and `crash` and `in_a_name` take every number.
+
 // No run meets this one.
 pub const NOWHERE: u8 = 0;
 

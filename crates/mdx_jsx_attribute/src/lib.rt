@@ -1,5 +1,5 @@
 // The attributes of a tag: the states of `partial_mdx_jsx.rs` from the name to the end of the tag.
-#![tactic(auto)]
+#![tactic(auto, using(base::proofs::Choice::picks))]
 
 ghost use Rattle.std.specs.Prelude.{◌≡◌};
 ghost use Rattle.mdx_jsx_attribute.specs.Attribute as attribute;
@@ -60,16 +60,7 @@ pub fn attribute_expression_after() -> Move
 fn attribute_primary_name_ends(b: u16) -> bool
     ensures { result ≡ attribute.attribute_primary_name_ends b }
 {
-    if whitespace_or_end(b) {
-        return true;
-    }
-    if b == byte::COLON {
-        return true;
-    }
-    if b == byte::EQUALS_SIGN {
-        return true;
-    }
-    tag_goes_on(b)
+    whitespace_or_end(b) || b == byte::COLON || b == byte::EQUALS_SIGN || tag_goes_on(b)
 }
 
 // In the first identifier of an attribute's name.
@@ -94,10 +85,7 @@ pub fn attribute_primary_name(b: u16) -> Move
 fn attribute_followed(b: u16) -> bool
     ensures { result ≡ attribute.attribute_followed b }
 {
-    if whitespace_or_end(b) {
-        return true;
-    }
-    name_followed(b)
+    whitespace_or_end(b) || name_followed(b)
 }
 
 // After the first identifier of an attribute's name. After `=` the Rust retries the white space state with the byte eaten.
@@ -155,13 +143,7 @@ pub fn attribute_local_name_before(b: u16) -> Move
 fn attribute_local_name_ends(b: u16) -> bool
     ensures { result ≡ attribute.attribute_local_name_ends b }
 {
-    if whitespace_or_end(b) {
-        return true;
-    }
-    if b == byte::EQUALS_SIGN {
-        return true;
-    }
-    tag_goes_on(b)
+    whitespace_or_end(b) || b == byte::EQUALS_SIGN || tag_goes_on(b)
 }
 
 // In the local part of an attribute's name.
@@ -212,10 +194,7 @@ pub fn attribute_local_name_after(b: u16) -> Move
 fn opens_value(b: u16) -> bool
     ensures { result ≡ attribute.opens_value b }
 {
-    match b {
-        byte::QUOTATION_MARK | byte::APOSTROPHE => true,
-        _ => false,
-    }
+    matches!(b, byte::QUOTATION_MARK | byte::APOSTROPHE)
 }
 
 // After `=`, before a value.
@@ -263,7 +242,6 @@ pub fn attribute_value_expression_after() -> Move
 //
 //     > | a <b c="d"/> e
 //                 ^
-#[tactic(auto, using(base::proofs::Choice::picks))]
 pub fn attribute_value_quoted_start(b: u16, quote: u16) -> Move
     ensures { result ≡ attribute.attribute_value_quoted_start b quote }
 {
@@ -289,13 +267,7 @@ pub fn attribute_value_quoted_start(b: u16, quote: u16) -> Move
 pub fn quoted_ends(b: u16, quote: u16) -> bool
     ensures { result ≡ attribute.quoted_ends b quote }
 {
-    if b == quote {
-        return true;
-    }
-    if b == byte::LINE_FEED {
-        return true;
-    }
-    b == byte::END_OF_PAGE
+    b == quote || b == byte::LINE_FEED || b == byte::END_OF_PAGE
 }
 
 // In a run of a quoted value.

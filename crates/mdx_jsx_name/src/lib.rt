@@ -1,5 +1,5 @@
 // The name of a tag: the states of `partial_mdx_jsx.rs` from the name to the first attribute.
-#![tactic(auto)]
+#![tactic(auto, using(base::proofs::Choice::picks))]
 
 ghost use Rattle.std.specs.Prelude.{◌≡◌};
 ghost use Rattle.mdx_jsx_name.specs.Name as name;
@@ -83,16 +83,7 @@ pub fn closing_tag_name_before(b: u16) -> Move
 fn primary_name_ends(b: u16) -> bool
     ensures { result ≡ name.primary_name_ends b }
 {
-    if whitespace_or_end(b) {
-        return true;
-    }
-    if b == byte::DOT {
-        return true;
-    }
-    if b == byte::COLON {
-        return true;
-    }
-    tag_goes_on(b)
+    whitespace_or_end(b) || b == byte::DOT || b == byte::COLON || tag_goes_on(b)
 }
 
 // In the first identifier of a name.
@@ -182,13 +173,7 @@ pub fn member_name_before(b: u16) -> Move
 fn member_name_ends(b: u16) -> bool
     ensures { result ≡ name.member_name_ends b }
 {
-    if whitespace_or_end(b) {
-        return true;
-    }
-    if b == byte::DOT {
-        return true;
-    }
-    tag_goes_on(b)
+    whitespace_or_end(b) || b == byte::DOT || tag_goes_on(b)
 }
 
 // In a member name.
@@ -228,13 +213,11 @@ pub fn member_name_after(b: u16) -> Move
 }
 
 // What may be meant for a link after `<https:`.
+#[tactic(auto, using(base::proofs::Choice::picks, base::proofs::Ranges::ranges))]
 fn link_like(b: u16) -> bool
     ensures { result ≡ name.link_like b }
 {
-    match b {
-        byte::PLUS_SIGN | byte::SLASH..=byte::DIGIT_9 => true,
-        _ => false,
-    }
+    matches!(b, byte::PLUS_SIGN | byte::SLASH..=byte::DIGIT_9)
 }
 
 // Before a local name.
@@ -258,10 +241,7 @@ pub fn local_name_before(b: u16) -> Move
 fn local_name_ends(b: u16) -> bool
     ensures { result ≡ name.local_name_ends b }
 {
-    if whitespace_or_end(b) {
-        return true;
-    }
-    tag_goes_on(b)
+    whitespace_or_end(b) || tag_goes_on(b)
 }
 
 // In a local name.

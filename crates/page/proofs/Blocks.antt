@@ -1,57 +1,32 @@
 -- For the blocks of plain bytes that the pass over a page skips: a block is plain where the count of its plain bytes is the block's length,
 -- and plain blocks that stand one behind the other are plain together.
-use Prim.Native.Nat.{ℕ, ◌+◌, ◌≤◌, ◌<◌}
+use Prim.Native.Nat.{ℕ, zero, suc, ◌+◌, ◌-◌, ◌*◌, ◌/◌, ◌≤◌, ◌<◌}
 use native.Mathlib.Omega.{arith}
 use native.Mathlib.Decide.{dec_le}
-use mathlib.Core.Path.{◌≡◌, sym, ◌∙◌}
-use mathlib.Core.Bool.{true}
+use mathlib.Core.Path.{◌≡◌, refl, sym, ap, ◌∙◌}
+use mathlib.Core.Bool.{Bool, true, false, cond}
 use mathlib.Core.Logic.{by_cases}
-use mathlib.Core.List.{List}
-use lib.Dec.{ltb}
-use lib.ListN.{length, get_or}
-use borrow.Author.Tests.{lt-ltb, le-ltb}
-use Rattle.base.proofs.Ranges.{is_within, above}
+use mathlib.Core.List.{List, [], ◌∷◌}
+use lib.Dec.{eqb}
+use lib.Seq.{drop-drop}
+use lib.ListN.{length, get_or, take, drop, length-drop}
+use borrow.Author.Tests.{eqb-true}
+use Rattle.std.specs.List.{count_by}
+use Rattle.std.specs.Simd.{first_chunks}
+use Rattle.std.proofs.lemmas.List.{get_or-drop, get_or-take, length-take-le}
+use Rattle.std.proofs.lemmas.List.Sums.{sum_by-cons, count_by-le-length}
 use Rattle.page.specs.Plain.{is_plain, PlainTo}
 
--- a byte that is not below the range is plain just where it is ASCII
-pub below_128 : (b : ℕ) → 14 ≤ b → ltb b 128 ≡ is_plain b
-below_128 b h =
-    by_cases (dec_le b 127)
-    (λ (e : b ≤ 127). lt-ltb b 128 (omega arith) ∙ sym (is_within 14 127 b h e))
-    (λ e. le-ltb b 128 (omega (arith, e)) ∙ sym (above 14 127 b (omega (arith, e))))
+-- where all of a block's bytes are counted, each is plain
+counted_first : (b : ℕ) (t : List ℕ) (p : Bool) → is_plain b ≡ p → cond p 1 0 + count_by is_plain t ≡ suc (length t)
+    → (count_by is_plain t ≡ length t → (k : ℕ) → k < length t → is_plain (get_or t k 0) ≡ true) → (k : ℕ) → k < suc (length t) → is_plain (get_or (b ∷ t) k 0) ≡ true
+counted_first b t true q e more zero h = q
+counted_first b t true q e more (suc k) h = more (omega arith) k (omega arith)
+counted_first b t false q e more k h = absurd (omega (arith, e, count_by-le-length is_plain t))
 
--- ---- one block
-
--- what the count of plain bytes says of the k that were looked at from a place on: where it is k too, all of them are plain
-pub record Counted (page : List ℕ) (at k count : ℕ) : Type 0 where
-  pub looked : k ≤ 16
-  pub at_most : count ≤ k
-  pub whole : count ≡ k → (i : ℕ) → at ≤ i → i < at + k → is_plain (get_or page i 0) ≡ true
-
-module _ (page : List ℕ) (at : ℕ) where
-  pub counted_none : Counted page at 0 0
-  counted_none = record { looked = omega arith; at_most = omega arith; whole = λ e i h l. absurd (omega arith) }
-
-  module _ (k count next : ℕ) (h : Counted page at k count) (more : k < 16) where
-    pub counted_plain : next ≡ count + 1 → is_plain (get_or page (at + k) 0) ≡ true → Counted page at (k + 1) next
-    counted_plain n p =
-        record {
-          looked = omega arith;
-          at_most = omega (arith, h.at_most);
-          whole = λ e i f l.
-              by_cases (dec_le (at + k) i)
-              (λ (g : at + k ≤ i). let z : i ≡ at + k = omega arith in rw z p)
-              (λ g. h.whole (omega arith) i f (omega (arith, g)));
-        }
-
-    -- from a byte that is not plain on, the count stays behind
-    pub counted_other : next ≡ count → Counted page at (k + 1) next
-    counted_other n = record { looked = omega arith; at_most = omega (arith, h.at_most); whole = λ e i f l. absurd (omega (arith, h.at_most)) }
-
-  -- the block is looked at, and none of its bytes was left out of the count
-  pub counted_all : (k count : ℕ) → Counted page at k count → 16 ≤ k → count ≡ 16 → at + 16 ≤ length page → PlainTo page at (at + 16)
-  counted_all k count h e f w =
-      record { onward = omega arith; in_page = w; each = λ i a b. h.whole (omega (arith, h.looked)) i a (omega arith) }
+all_counted : (t : List ℕ) → count_by is_plain t ≡ length t → (k : ℕ) → k < length t → is_plain (get_or t k 0) ≡ true
+all_counted [] e k h = absurd (omega arith)
+all_counted (b ∷ t) e k h = counted_first b t (is_plain b) refl (sym (sum_by-cons (λ (x : ℕ). cond (is_plain x) 1 0) b t) ∙ e) (λ f i l. all_counted t f i l) k h
 
 -- ---- blocks
 
@@ -69,3 +44,50 @@ module _ (page : List ℕ) (from : ℕ) where
             (λ (e : at ≤ i). g.each i e b)
             (λ e. h.each i a (omega (arith, e)));
       }
+
+-- ---- the page from a place on, block by block
+
+block_at : (k : ℕ) (t : List ℕ) (i : ℕ) (d : List ℕ) → i < k → get_or (first_chunks 16 k t) i d ≡ take 16 (drop (16 * i) t)
+block_at zero t i d h = absurd (omega arith)
+block_at (suc k) t zero d h = refl
+block_at (suc k) t (suc i) d h =
+    let e : 16 + 16 * i ≡ 16 * suc i = omega arith in
+    block_at k (drop 16 t) i d (omega arith) ∙ ap (take 16) (drop-drop (16 * i) 16 t ∙ ap (λ (n : ℕ). drop n t) e)
+
+module _ (page : List ℕ) (from i at : ℕ) where
+  -- i blocks are passed
+  pub record Skips : Type 0 where
+    pub place : at ≡ from + 16 * i
+    pub plain : PlainTo page from at
+
+pub skip_none : (page : List ℕ) (from : ℕ) → from ≤ length page → Skips page from 0 from
+skip_none page from h = record { place = omega arith; plain = plain_none page from h }
+
+module _ (page : List ℕ) (from i at : ℕ) (h : Skips page from i at) (t : List ℕ) (is : t ≡ drop from page)
+    (blocks : List (List ℕ)) (cut : blocks ≡ first_chunks 16 (length t / 16) t) (many : length blocks ≡ length t / 16) (less : i < length blocks) where
+  pub block_fits : at + 16 ≤ length page
+  block_fits = omega (arith, h.place, h.plain.in_page, many, less, ap length is, length-drop from page)
+
+  module _ (d : List ℕ) where
+    abbrev block : List ℕ
+    block = get_or blocks i d
+
+    block_is : block ≡ take 16 (drop at page)
+    block_is =
+        let e : from + 16 * i ≡ at = omega (arith, h.place) in
+        ap (λ (x : List (List ℕ)). get_or x i d) cut ∙ block_at (length t / 16) t i d (omega (arith, many, less)) ∙ ap (λ (x : List ℕ). take 16 (drop (16 * i) x)) is ∙ ap (take 16) (drop-drop (16 * i) from page ∙ ap (λ (n : ℕ). drop n page) e)
+
+    pub skip_more : eqb (count_by is_plain block) 16 ≡ true → Skips page from (i + 1) (at + 16)
+    skip_more e =
+        let sixteen : length block ≡ 16 = ap length block_is ∙ length-take-le 16 (drop at page) (omega (arith, block_fits, length-drop at page)) in
+        let here : PlainTo page at (at + 16) = record {
+          onward = omega arith;
+          in_page = block_fits;
+          each = λ j a b.
+              let z : at + (j - at) ≡ j = omega arith in
+              let in_block : get_or page j 0 ≡ get_or block (j - at) 0 =
+              ap (λ (n : ℕ). get_or page n 0) (sym z) ∙ sym (get_or-drop at page (j - at) 0) ∙ sym (get_or-take 16 (drop at page) (j - at) 0 (omega arith))
+              ∙ ap (λ (x : List ℕ). get_or x (j - at) 0) (sym block_is) in
+              ap is_plain in_block ∙ all_counted block (eqb-true _ _ e ∙ sym sixteen) (j - at) (omega (arith, sixteen));
+        } in
+        record { place = omega (arith, h.place); plain = plain_more page from at (at + 16) h.plain here }

@@ -10,6 +10,7 @@ use mathlib.Core.List.{List}
 use lib.Dec.{eqb, ltb}
 use lib.ListN.{length, get_or, drop, drop_of_length-le}
 use borrow.Author.Tests.{ne_eqb, lt-ltb, le-ltb}
+use Rattle.std.specs.Prelude.{Ok, Err}
 use Rattle.base.specs.Byte.{tab, line_feed, carriage_return}
 use Rattle.base.specs.If.{when◌then◌else◌}
 use Rattle.base.proofs.Choice.{if_yes, if_no, or_no}
@@ -17,8 +18,8 @@ use Rattle.base.proofs.Ranges.{within_is}
 use Rattle.base.specs.Page.{byte_at}
 use Rattle.page.specs.declared.line.Line.{Line}
 use Rattle.page.specs.declared.line.Anchor.{Anchor}
-use Rattle.page.specs.declared.Checked.{Checked}
-use Rattle.page.specs.declared.Checked.TheVariants.{Good, BadText}
+use Rattle.page.specs.declared.Fault.{Fault}
+use Rattle.page.specs.declared.Fault.TheVariants.{BadText}
 use Rattle.page.specs.Utf8.{sequence}
 use Rattle.page.specs.Line.{line_of, column_of, spot, line_at, passed_line, onward, line_from, first_anchor, anchor_past}
 use Rattle.page.specs.Text.{fault, read_from, read_text}
@@ -94,15 +95,15 @@ module _ (page : List ℕ) (start : ℕ) where
     counts = anchor_small page anchor at h.here
 
     -- the text is at fault here
-    pub reads_fault : (x : Checked) (line : Line) → line ≡ line_from anchor at → x ≡ BadText (spot at line.number line.column) → fault at ≡ read_from 0 at (drop at page) → x ≡ checked_by page start (read_text page)
+    pub reads_fault : (x : Fault) (line : Line) → line ≡ line_from anchor at → x ≡ BadText (spot at line.number line.column) → fault at ≡ read_from 0 at (drop at page) → Err x ≡ checked_by page start (read_text page)
     reads_fault x line l e f =
-        e ∙ ap (λ (y : Line). BadText (spot at y.number y.column)) (l ∙ h.here.counts) ∙ ap (checked_by page start) (f ∙ sym h.read)
+        ap Err e ∙ ap (λ (y : Line). Err (BadText (spot at y.number y.column))) (l ∙ h.here.counts) ∙ ap (checked_by page start) (f ∙ sym h.read)
 
-    pub reads_return : (x : Checked) (line : Line) → line ≡ line_from anchor at → x ≡ BadText (spot at line.number line.column) → get_or page at 0 ≡ carriage_return → x ≡ checked_by page start (read_text page)
+    pub reads_return : (x : Fault) (line : Line) → line ≡ line_from anchor at → x ≡ BadText (spot at line.number line.column) → get_or page at 0 ≡ carriage_return → Err x ≡ checked_by page start (read_text page)
     reads_return x line l e b = reads_fault x line l e (halts_return page at here b)
 
-    pub reads_ill : (x : Checked) (line : Line) (size : ℕ) → line ≡ line_from anchor at → x ≡ BadText (spot at line.number line.column) → size ≡ sequence (drop at page) → size ≡ 0 → x ≡ checked_by page start (read_text page)
-    reads_ill x line size l e s z = reads_fault x line l e (halts_ill page at here (sym s ∙ z))
+    pub reads_ill : (x : Fault) (line : Line) → line ≡ line_from anchor at → x ≡ BadText (spot at line.number line.column) → sequence (drop at page) ≡ 0 → Err x ≡ checked_by page start (read_text page)
+    reads_ill x line l e z = reads_fault x line l e (halts_ill page at here z)
 
     -- a line feed or a tab is passed
     pub reads_shift : (b : ℕ) (next after : Anchor) → b ≡ get_or page at 0 → get_or page at 0 < 0x80 → (get_or page at 0 ≡ carriage_return → ⊥) → next ≡ anchor_past anchor at b → after ≡ (when ltb at start then next else begun) → Reads page start (at + 1) next after
@@ -173,10 +174,10 @@ module _ (page : List ℕ) (start : ℕ) where
         rw e at (reads_run (end - at) (rw e p))
 
   -- the page is read
-  pub reads_all : (at : ℕ) (anchor begun : Anchor) (line : Line) → Reads page start at anchor begun → start ≤ length page → length page ≤ at → line ≡ line_from begun start → Good line ≡ checked_by page start (read_text page)
+  pub reads_all : (at : ℕ) (anchor begun : Anchor) (line : Line) → Reads page start at anchor begun → start ≤ length page → length page ≤ at → line ≡ line_from begun start → Ok line ≡ checked_by page start (read_text page)
   unfolding read_from
   reads_all at anchor begun line h s e l =
-      ap Good (l ∙ (h.behind (omega arith)).counts) ∙ sym (ap (checked_by page start) (h.read ∙ ap (read_from 0 at) (drop_of_length-le page e)))
+      ap Ok (l ∙ (h.behind (omega arith)).counts) ∙ sym (ap (checked_by page start) (h.read ∙ ap (read_from 0 at) (drop_of_length-le page e)))
 
   -- the anchor of the start, when the page is read
   pub begun_small : (at : ℕ) (anchor begun : Anchor) → Reads page start at anchor begun → start ≤ at → Small begun start

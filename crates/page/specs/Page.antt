@@ -1,9 +1,10 @@
 -- A page that is handed over (docs/SCOPE.md, the answer table, rows 2, 3 and 4).
-use Rattle.std.specs.Prelude.{ℕ, ◌+◌, ◌≤◌, Bool, List, leb, ltb, length, take, drop}
+use Rattle.std.specs.Prelude.{ℕ, ◌+◌, ◌≤◌, Bool, List, Result, Ok, Err, leb, ltb, length, take, drop}
 use Rattle.base.specs.If.{when◌then◌else◌}
 use Rattle.base.specs.Page.{page_limit}
-use Rattle.page.specs.declared.Checked.{Checked}
-use Rattle.page.specs.declared.Checked.TheVariants.{Good, TooLong, BadStart, BadText}
+use Rattle.page.specs.declared.Fault.{Fault}
+use Rattle.page.specs.declared.Fault.TheVariants.{TooLong, BadStart, BadText}
+use Rattle.page.specs.declared.line.Line.{Line}
 use Rattle.page.specs.Line.{spot_at, line_at}
 use Rattle.page.specs.Text.{Reading, good, fault, read_text}
 
@@ -21,14 +22,14 @@ pub record Admitted (bytes : List ℕ) (at n start : ℕ) : Type 0 where
   pub lies : at + n ≤ length bytes
 
 -- what a page is answered whose text was read: the line of its start, or where its first fault is
-abbrev pub checked_by : List ℕ → ℕ → Reading → Checked
-checked_by page start good = Good (line_at page start)
-checked_by page start (fault o) = BadText (spot_at page o)
+abbrev pub checked_by : List ℕ → ℕ → Reading → Result Line Fault
+checked_by page start good = Ok (line_at page start)
+checked_by page start (fault o) = Err (BadText (spot_at page o))
 
 -- The answer, the refusals in the order of their numbers. When each is given, both ways: proofs/Answers.antt.
-abbrev pub page_check : List ℕ → ℕ → ℕ → ℕ → Checked
+abbrev pub page_check : List ℕ → ℕ → ℕ → ℕ → Result Line Fault
 page_check bytes at n start =
-    when ltb page_limit n then TooLong
-    else when ltb n start then BadStart
+    when ltb page_limit n then Err TooLong
+    else when ltb n start then Err BadStart
     else when lies_inside (length bytes) at n then checked_by (page_of bytes at n) start (read_text (page_of bytes at n))
-    else BadStart
+    else Err BadStart

@@ -1,5 +1,5 @@
 -- Unicode's Table 3-7, "Well-Formed UTF-8 Byte Sequences": which bytes make one character.
-use Rattle.std.specs.Prelude.{ℕ, ◌≡◌, Bool, true, false, ◌&&◌, ltb, length, get_or}
+use Rattle.std.specs.Prelude.{ℕ, zero, suc, ◌≡◌, Bool, true, false, ◌&&◌, Option, Some, None, length}
 use mathlib.Core.List.{List, [], ◌∷◌, ◌++◌, Memᴰ}
 use Rattle.base.specs.If.{when◌then◌else◌}
 use Rattle.base.specs.Range.{within}
@@ -10,10 +10,6 @@ Range = ℕ × ℕ
 
 abbrev pub holds : Range → ℕ → Bool
 holds r b = within r.0 r.1 b
-
--- a byte stands at the place p of the text, and it lies in the range
-unfoldable pub holds_at : List ℕ → ℕ → Range → Bool
-holds_at t p r = ltb p (length t) && holds r (get_or t p 0)
 
 -- a row of the table: a range for each byte of the sequence
 abbrev pub Row : Type 0
@@ -50,6 +46,14 @@ sequence_in (row ∷ rows) t = when begins row t then length row else sequence_i
 
 abbrev pub sequence : List ℕ → ℕ
 sequence t = sequence_in table t
+
+-- the same, where 0 is none
+abbrev pub size_of : ℕ → Option ℕ
+size_of zero = None
+size_of (suc n) = Some (suc n)
+
+abbrev pub sequence_size : List ℕ → Option ℕ
+sequence_size t = size_of (sequence t)
 
 -- a sequence begins the text
 pub record Begins (t : List ℕ) : Type 0 where

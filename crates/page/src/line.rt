@@ -1,4 +1,7 @@
 // Lines and columns: the Rust's `move_one`.
+//
+// That a page is within the limit is asked of it wherever it is counted, and no type has it: a page is lent as bytes, by public calls too
+// (`line_at`), and its length is tested where it is checked or run.
 ghost use Rattle.std.specs.Prelude.{◌≡◌, ◌+◌, ◌-◌, ◌≤◌, ◌<◌, ◌^◌, length};
 ghost use Rattle.base.specs.Page.{page_limit};
 ghost use Rattle.page.specs.Line.{column_behind, first_line, next_line, passed_line, line_from, anchor_past, line_at};
@@ -52,6 +55,7 @@ fn next_line(line: Line) -> Line
 }
 
 // The column behind a byte that is no line feed.
+#[tactic(auto, using(base::proofs::Choice::picks))]
 pub fn column_behind(column: usize, b: u16) -> usize
     requires { column < 2 ^ 63 }
     ensures { result ≡ column_behind column b }
@@ -71,8 +75,8 @@ fn passed(line: Line, b: u16) -> Line
         return next_line(line);
     }
     Line {
-        number: line.number,
         column: column_behind(line.column, b),
+        ..line
     }
 }
 
@@ -82,8 +86,8 @@ pub(crate) fn line_from(anchor: Anchor, at: usize) -> Line
     ensures { result ≡ line_from anchor at }
 {
     Line {
-        number: anchor.line.number,
         column: anchor.line.column + (at - anchor.from),
+        ..anchor.line
     }
 }
 
@@ -102,10 +106,8 @@ pub(crate) fn line_on(page: &[u8], line: Line, from: usize, place: usize) -> Lin
     ensures { result ≡ line_at page.now place }
 {
     let mut line = line;
-    let mut at = from;
-    while at < place {
+    for at in from..place {
         line = passed(line, byte_at(page, at));
-        at += 1;
     }
     line
 }

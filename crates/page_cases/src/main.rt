@@ -4,9 +4,9 @@
 
 ghost use Rattle.std.specs.Prelude.{◌≤◌, length};
 
-use page::Checked;
+use page::Fault;
+use page::line::Line;
 use std::io::Read;
-use text::{Hex, Parsed};
 
 // Room for the whole input, of which what is beyond is not read, and for the longest text on a line.
 const INPUT_ROOM: usize = 2_097_152;
@@ -15,8 +15,8 @@ const TEXT_ROOM: usize = 16_384;
 
 #[derive(Clone, Copy)]
 struct Tally {
-    compared: u64,
-    differ: u64,
+    compared: usize,
+    differ: usize,
 }
 
 fn main(rt: HostRuntime) {
@@ -38,37 +38,31 @@ fn run(
 
 fn compare(rt: &impl Print, source: &mut impl Read, input: &mut [u8], space: &mut [u8]) {
     let count = read_full(source, input);
-    let tally = compare_lines(rt, &input[0..count], space);
+    let tally = compare_lines(rt, &input[..count], space);
     let _ = println!(rt; "{} compared, {} differ", tally.compared, tally.differ);
 }
 
-// Until the input is full, the source ends or a read fails: how many bytes stand at the input's start.
+// Until the input is full, the source ends or a read fails: how many bytes stand at the input's start. It is a `while`, since a read
+// gives as many bytes as it will.
 fn read_full(source: &mut impl Read, input: &mut [u8]) -> usize
     ensures { result ≤ length input.new }
 {
     let mut done = 0;
     while done < input.len() {
-        let count = source.read(&mut input[done..]).unwrap_or(0);
-        if count == 0 {
-            return done;
+        match source.read(&mut input[done..]) {
+            Ok(0) | Err(_) => return done,
+            Ok(count) => done += count,
         }
-        done += count;
     }
     done
 }
 
 fn compare_lines(rt: &impl Print, input: &[u8], space: &mut [u8]) -> Tally {
-    let mut compared: u64 = 0;
-    let mut differ: u64 = 0;
-    let mut at = 0;
-    while at < input.len() {
-        let end = text::find(input, at, b'\n');
-        if !line_agrees(rt, &input[at..end], space) {
-            differ += 1;
-        }
-        compared += 1;
-        at = end + 1;
-    }
+    let compared = input.split_inclusive(|x| *x == b'\n').count();
+    let differ = input
+        .split_inclusive(|x| *x == b'\n')
+        .filter(|line| !line_agrees(rt, line.strip_suffix(b"\n").unwrap_or(line), space))
+        .count();
     Tally { compared, differ }
 }
 
@@ -84,92 +78,60 @@ fn line_agrees(rt: &impl Print, line: &[u8], space: &mut [u8]) -> bool {
 
 // The first word says what is recorded on the line.
 fn agrees(line: &[u8], space: &mut [u8]) -> bool {
-    let end = text::find(line, 0, b' ');
-    if text::is_word(line, 0, end, b"text") {
-        return text_agrees(line, end + 1, space);
+    if let Some(text) = line.strip_prefix(b"text ") {
+        return text_agrees(text, space);
     }
-    if text::is_word(line, 0, end, b"class") {
-        return class_agrees(line, end + 1);
+    if let Some(class) = line.strip_prefix(b"class ") {
+        return class_agrees(class);
     }
     false
 }
 
 // A text in hex, which is put into the lent space, and what was found of it.
-fn text_agrees(line: &[u8], from: usize, space: &mut [u8]) -> bool {
-    let end = text::find(line, from, b' ');
-    if text::is_word(line, from, end, b"-") {
-        return verdict_agrees(line, end + 1, page::check(space, 0, 0, 0));
+fn text_agrees(line: &[u8], space: &mut [u8]) -> bool {
+    let end = text::find(line, 0, b' ');
+    let Some(found) = line.get(end + 1..) else {
+        return false;
+    };
+    if text::is_word(line, 0, end, b"-") {
+        return verdict_agrees(found, page::check(space, 0, 0, 0));
     }
-    match text::decode_hex(line, from, end, space) {
-        Hex::Decoded(count) => verdict_agrees(line, end + 1, page::check(space, 0, count, 0)),
-        Hex::BadHex => false,
-        Hex::NoRoom => false,
+    match text::decode_hex(line, 0, end, space) {
+        Ok(count) => verdict_agrees(found, page::check(space, 0, count, 0)),
+        Err(_) => false,
     }
 }
 
 // `valid`, or `invalid` and the first offset at fault.
-fn verdict_agrees(line: &[u8], from: usize, answer: Checked) -> bool {
-    let end = text::find(line, from, b' ');
+fn verdict_agrees(found: &[u8], answer: Result<Line, Fault>) -> bool {
     match answer {
-        Checked::Good(_) => text::is_word(line, from, line.len(), b"valid"),
-        Checked::BadText(spot) => {
-            if text::is_word(line, from, end, b"invalid") {
-                return number_agrees(line, end + 1, spot.place);
-            }
-            false
-        }
-        Checked::TooLong => false,
-        Checked::BadStart => false,
-    }
-}
-
-// The rest of the line is the number.
-fn number_agrees(line: &[u8], from: usize, expected: usize) -> bool {
-    match text::decimal(line, from, line.len()) {
-        Parsed::Number(number) => number == expected as u64,
-        Parsed::Bad => false,
+        Ok(_) => found == b"valid".as_slice(),
+        Err(Fault::BadText(spot)) => match found.strip_prefix(b"invalid ") {
+            Some(offset) => text::decimal(offset, 0, offset.len()) == Some(spot.place as u64),
+            None => false,
+        },
+        Err(Fault::TooLong | Fault::BadStart) => false,
     }
 }
 
 // A byte's number, and for each class whether the byte is in it.
-fn class_agrees(line: &[u8], from: usize) -> bool {
-    let end = text::find(line, from, b' ');
-    match text::decimal(line, from, end) {
-        Parsed::Number(number) => {
-            if 255 < number {
-                return false;
-            }
-            flags_agree(line, end + 1, number as u16)
-        }
-        Parsed::Bad => false,
+fn class_agrees(line: &[u8]) -> bool {
+    let end = text::find(line, 0, b' ');
+    let Some(Ok(byte)) = text::decimal(line, 0, end).map(u8::try_from) else {
+        return false;
+    };
+    match line.get(end + 1..) {
+        Some(flags) => flags_agree(flags, u16::from(byte)),
+        None => false,
     }
 }
 
-fn flags_agree(line: &[u8], from: usize, byte: u16) -> bool {
-    if line.len() < 4 {
-        return false;
-    }
-    if line.len() - 4 != from {
-        return false;
-    }
-    if !flag_is(line, from, char_class::whitespace(byte)) {
-        return false;
-    }
-    if !flag_is(line, from + 1, char_class::id_start(byte)) {
-        return false;
-    }
-    if !flag_is(line, from + 2, char_class::id_cont(byte)) {
-        return false;
-    }
-    flag_is(line, from + 3, char_class::space_or_tab(byte))
-}
-
-fn flag_is(line: &[u8], at: usize, expected: bool) -> bool {
-    if line.len() <= at {
-        return false;
-    }
-    if expected {
-        return line[at] == b'1';
-    }
-    line[at] == b'0'
+fn flags_agree(flags: &[u8], byte: u16) -> bool {
+    let expected = [
+        char_class::whitespace(byte),
+        char_class::id_start(byte),
+        char_class::id_cont(byte),
+        char_class::space_or_tab(byte),
+    ];
+    flags == expected.map(|holds| b'0' + u8::from(holds)).as_slice()
 }

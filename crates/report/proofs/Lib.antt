@@ -1,9 +1,5 @@
 pub mod Puts
-pub mod Copied
 pub mod Digits
 pub mod Decimals
-pub mod Names
-pub mod Lowering
-pub mod Room
 pub mod Each
 pub mod Telling

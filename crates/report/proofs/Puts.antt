@@ -7,8 +7,11 @@ use mathlib.Core.Path.{◌≡◌, refl, sym, ap, ap₂, ◌∙◌}
 use mathlib.Core.List.{List, [], ◌∷◌, ◌++◌}
 use lib.Dec.{ltb}
 use lib.ListN.{length, set, length-append}
-use lib.Seq.{sets, length-sets}
-use borrow.Author.Tests.{ltb-true, ltb-false, le-ltb}
+use lib.Seq.{sets, length-sets, drop-drop}
+use Rattle.std.proofs.lemmas.List.{append_assoc}
+use Rattle.std.proofs.lemmas.List.Edits.{sets-eq}
+use borrow.Rule.Slice.PartMut.{put_mid}
+use borrow.Author.Tests.{ltb-false, le-ltb}
 use Rattle.base.specs.If.{when◌then◌else◌}
 use Rattle.base.proofs.Choice.{case, picks}
 use Rattle.report.specs.Put.{Put, outcome, in_room, put_from, put_of, text_of}
@@ -16,12 +19,10 @@ use Rattle.report.specs.Put.{Put, outcome, in_room, put_from, put_of, text_of}
 -- ---- a place inside the buffer
 
 pub room_of : (room at : ℕ) → at ≤ room → in_room room at ≡ at
-unfolding when◌then◌else◌
-room_of room at h = case (in_room room at ≡ at) (ltb at room) (λ y. rw y) (λ n. rw n (omega (arith, ltb-false at room n)))
+room_of room at h = omega arith
 
 pub in_room_lem : (room at : ℕ) → in_room room at ≤ room
-unfolding when◌then◌else◌
-in_room_lem room at = case (in_room room at ≤ room) (ltb at room) (λ y. rw y (omega (arith, ltb-true at room y))) (λ n. rw n (omega arith))
+in_room_lem room at = omega arith
 
 -- ---- one piece after the other
 
@@ -97,6 +98,6 @@ module _ (out : List ℕ) (at a : ℕ) (e : a ≡ in_room (length out) at) where
   unfolding put_of put_from
   all_put bytes b h s = rw (s, ← e) (search picks depth 12)
 
--- what is put may be named otherwise
-pub put_as : (out : List ℕ) (at : ℕ) {name bytes : List ℕ} {z : Put} → bytes ≡ name → z ≡ put_of out at (bytes ∷ []) → z ≡ put_of out at (name ∷ [])
-put_as out at e p = rw e at p
+-- a part of the buffer that bytes were copied to
+pub part_put : (out bytes copied : List ℕ) (a n : ℕ) → copied ≡ bytes → n ≡ length bytes → a + length bytes ≤ length out → put_mid a n out copied ≡ sets out a bytes
+part_put out bytes copied a n e m h = rw (e, m, sets-eq bytes out a h, drop-drop (length bytes) a out, append_assoc)

@@ -1,6 +1,8 @@
 -- The names of the answers, as bytes; and an answer's text, its name and values.
-use Rattle.std.specs.Prelude.{ℕ, List, [], ◌∷◌, ◌++◌, Bool, true, false, ltb}
+use Rattle.std.specs.Prelude.{ℕ, List, [], ◌∷◌, ◌++◌, ltb, Option, Some, None}
+use Rattle.std.specs.Bool.{then_some}
 use Rattle.base.specs.Table.{find}
+use Rattle.page.specs.declared.line.Line.{Line}
 use Rattle.report.specs.declared.answers.Told.{Told}
 use Rattle.report.specs.Decimal.{joined_pieces, value_pieces}
 use Rattle.report.specs.Name.{unknown}
@@ -45,17 +47,17 @@ unfoldable pub answer_name : ℕ → List ℕ
 answer_name n = find n answer_names unknown
 
 -- the line and the column of a place, behind it, with a joint before each: `:` or a space
-abbrev pub place_pieces : Bool → List ℕ → ℕ → ℕ → List (List ℕ)
-place_pieces false joint line column = []
-place_pieces true joint line column = joined_pieces joint line ++ joined_pieces joint column
+abbrev pub place_pieces : List ℕ → Option Line → List (List ℕ)
+place_pieces joint None = []
+place_pieces joint (Some l) = joined_pieces joint l.number ++ joined_pieces joint l.column
 
 -- the values that it carries, a space before each
 abbrev pub values_pieces : List ℕ → Told → List (List ℕ)
 values_pieces joint t =
-    value_pieces (ltb 0 t.values) t.first
-    ++ (place_pieces t.placed joint t.line t.column
-    ++ (value_pieces (ltb 1 t.values) t.second
-    ++ value_pieces (ltb 2 t.values) t.third))
+    value_pieces (then_some (ltb 0 t.values) t.first)
+    ++ (place_pieces joint t.line
+    ++ (value_pieces (then_some (ltb 1 t.values) t.second)
+    ++ value_pieces (then_some (ltb 2 t.values) t.third)))
 
 abbrev pub answer_pieces : List ℕ → Told → List (List ℕ)
 answer_pieces joint t = answer_name t.number ∷ values_pieces joint t

@@ -1,5 +1,5 @@
 -- A number's decimal digits, as few as it has.
-use Rattle.std.specs.Prelude.{ℕ, zero, suc, ◌/◌, ◌%◌, Bool, true, false, List, [], ◌∷◌, ◌++◌, ltb}
+use Rattle.std.specs.Prelude.{ℕ, zero, suc, ◌/◌, ◌%◌, List, [], ◌∷◌, ◌++◌, ltb, Option, Some, None}
 use Rattle.base.specs.Byte.{space}
 use Rattle.base.specs.If.{when◌then◌else◌}
 use Rattle.io.specs.Digits.{hex_digit_ascii}
@@ -19,10 +19,10 @@ decimal n = digits_up_to (suc n) n
 abbrev pub spaced_pieces : ℕ → List (List ℕ)
 spaced_pieces n = (space ∷ []) ∷ decimal n ∷ []
 
--- the same where the number is carried, else nothing
-abbrev pub value_pieces : Bool → ℕ → List (List ℕ)
-value_pieces true n = spaced_pieces n
-value_pieces false n = []
+-- the same of a number that is carried, else nothing
+abbrev pub value_pieces : Option ℕ → List (List ℕ)
+value_pieces None = []
+value_pieces (Some n) = spaced_pieces n
 
 -- a joint, as `:`, and the number
 abbrev pub joined_pieces : List ℕ → ℕ → List (List ℕ)

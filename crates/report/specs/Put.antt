@@ -1,5 +1,5 @@
 -- Text put into a lent buffer, piece by piece, each whole or not at all.
-use Rattle.std.specs.Prelude.{ℕ, ◌+◌, ◌-◌, List, [], ◌∷◌, ◌++◌, ltb, length}
+use Rattle.std.specs.Prelude.{ℕ, ◌+◌, ◌-◌, min, List, [], ◌∷◌, ◌++◌, ltb, length}
 use Rattle.std.proofs.lemmas.List.Edits.{sets}
 use Rattle.base.specs.If.{when◌then◌else◌}
 
@@ -13,7 +13,7 @@ outcome place buffer = record { place = place; buffer = buffer }
 
 -- a place past the end counts as the end
 abbrev pub in_room : ℕ → ℕ → ℕ
-in_room room at = when ltb at room then at else room
+in_room room at = min at room
 
 -- the pieces one after the other, from a place inside the buffer on; one that does not fit is left out
 unfoldable pub put_from : List ℕ → ℕ → List (List ℕ) → Put

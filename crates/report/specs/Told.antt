@@ -1,6 +1,6 @@
 -- An answer's number and values, each under a name of its own; together they are what the answer table of docs/SCOPE.md lists.
-use Rattle.std.specs.Prelude.{ℕ, ◌-◌, true, false, List, [], ◌∷◌, ◌++◌, take}
-use Rattle.base.specs.If.{when◌then◌else◌}
+use Rattle.std.specs.Prelude.{ℕ, ◌-◌, List, [], ◌∷◌, ◌++◌, take, Option, Some, None}
+use Rattle.page.specs.declared.line.Line.{Line}
 use Rattle.page.specs.declared.line.Spot.{Spot}
 use Rattle.scan.specs.declared.Tally.{Tally}
 use Rattle.scan.specs.declared.Answer.{Answer}
@@ -26,12 +26,12 @@ use Rattle.report.specs.declared.answers.Told.{Told}
 -- an answer that carries nothing
 abbrev pub bare_told : ℕ → Told
 bare_told number =
-    record { number = number; values = 0; placed = false; first = 0; line = 0; column = 0; second = 0; third = 0; counted = false; events = 0; steps = 0 }
+    record { number = number; values = 0; first = 0; line = None; second = 0; third = 0; tally = None }
 
 -- an end
 abbrev pub end_told : ℕ → ℕ → Told
 end_told number end =
-    record { number = number; values = 1; placed = false; first = end; line = 0; column = 0; second = 0; third = 0; counted = false; events = 0; steps = 0 }
+    record { number = number; values = 1; first = end; line = None; second = 0; third = 0; tally = None }
 
 -- so many values, of which the first is a place with its line and column
 abbrev pub place_told : ℕ → ℕ → Spot → ℕ → ℕ → Told
@@ -39,15 +39,11 @@ place_told number values p second third =
     record {
       number = number;
       values = values;
-      placed = true;
       first = p.place;
-      line = p.line;
-      column = p.column;
+      line = Some (record { number = p.line; column = p.column });
       second = second;
       third = third;
-      counted = false;
-      events = 0;
-      steps = 0;
+      tally = None;
     }
 
 -- the same answer with its events and steps
@@ -56,15 +52,11 @@ counting_told t made =
     record {
       number = t.number;
       values = t.values;
-      placed = t.placed;
       first = t.first;
       line = t.line;
-      column = t.column;
       second = t.second;
       third = t.third;
-      counted = true;
-      events = made.events;
-      steps = made.steps;
+      tally = Some made;
     }
 
 -- an answer by its number and values
@@ -85,10 +77,19 @@ told_of (Asking p made) = counting_told (place_told 31 1 p 0 0) made
 told_of (Paused p made) = counting_told (place_told 32 1 p 0 0) made
 told_of Kept = bare_told 33
 
+-- a place's line and column, and what a scan has made, as values
+abbrev pub line_values : Option Line → List ℕ
+line_values None = []
+line_values (Some l) = l.number ∷ l.column ∷ []
+
+abbrev pub tally_values : Option Tally → List ℕ
+tally_values None = []
+tally_values (Some made) = made.events ∷ made.steps ∷ []
+
 -- what is told, as one list
 unfoldable pub carried : Told → List ℕ
 carried t =
     take t.values (t.first ∷ [])
-    ++ ((when t.placed then t.line ∷ t.column ∷ [] else [])
+    ++ (line_values t.line
     ++ (take (t.values - 1) (t.second ∷ t.third ∷ [])
-    ++ (when t.counted then t.events ∷ t.steps ∷ [] else [])))
+    ++ tally_values t.tally))

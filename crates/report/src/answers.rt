@@ -2,24 +2,21 @@
 ghost use Rattle.std.specs.Prelude.{◌≡◌};
 ghost use Rattle.report.specs.Told.{bare_told, end_told, place_told, counting_told, told_of};
 
-use page::line::Spot;
+use page::line::{Line, Spot};
 use scan::{Answer, Tally};
 
-// An answer's number, the values that it carries in the table's order, and its events and steps. Where the first value is a place, it
-// has a line and a column. What is not carried is 0. Asking, Paused and Kept, which the table does not number, are 31 to 33.
+// An answer's number, how many values it carries, the values in the table's order, and its events and steps. Where the first value is a
+// place, it has its line and column. A value that is not carried is 0. Asking, Paused and Kept, which the table does not number, are 31
+// to 33.
 #[derive(Clone, Copy)]
 pub struct Told {
     pub number: u8,
     pub values: u8,
-    pub placed: bool,
     pub first: usize,
-    pub line: usize,
-    pub column: usize,
+    pub line: Option<Line>,
     pub second: usize,
     pub third: usize,
-    pub counted: bool,
-    pub events: usize,
-    pub steps: usize,
+    pub tally: Option<Tally>,
 }
 
 pub fn tell(answer: Answer) -> Told
@@ -66,15 +63,11 @@ fn bare(number: u8) -> Told
     Told {
         number,
         values: 0,
-        placed: false,
         first: 0,
-        line: 0,
-        column: 0,
+        line: None,
         second: 0,
         third: 0,
-        counted: false,
-        events: 0,
-        steps: 0,
+        tally: None,
     }
 }
 
@@ -82,10 +75,11 @@ fn bare(number: u8) -> Told
 fn ended(number: u8, end: usize) -> Told
     ensures { result ≡ end_told number end }
 {
-    let mut told = bare(number);
-    told.values = 1;
-    told.first = end;
-    told
+    Told {
+        values: 1,
+        first: end,
+        ..bare(number)
+    }
 }
 
 // An answer that carries so many values, of which the first is a place.
@@ -95,15 +89,14 @@ fn placed(number: u8, values: u8, spot: Spot, second: usize, third: usize) -> To
     Told {
         number,
         values,
-        placed: true,
         first: spot.place,
-        line: spot.line,
-        column: spot.column,
+        line: Some(Line {
+            number: spot.line,
+            column: spot.column,
+        }),
         second,
         third,
-        counted: false,
-        events: 0,
-        steps: 0,
+        tally: None,
     }
 }
 
@@ -111,9 +104,8 @@ fn placed(number: u8, values: u8, spot: Spot, second: usize, third: usize) -> To
 fn counting(told: Told, tally: Tally) -> Told
     ensures { result ≡ counting_told told tally }
 {
-    let mut counted = told;
-    counted.counted = true;
-    counted.events = tally.events;
-    counted.steps = tally.steps;
-    counted
+    Told {
+        tally: Some(tally),
+        ..told
+    }
 }

@@ -6,113 +6,102 @@ ghost use Rattle.report.specs.Put.{outcome, put_of};
 use crate::pieces::text;
 use base::kind;
 
-// The largest number of a kind.
-const LARGEST_KIND: u32 = 255;
-
 // A number that is no kind's is `unknown`.
 pub fn kind_name(out: &mut [u8], at: usize, kind: u32) -> usize
     ensures { outcome result out.new ≡ put_of out.old at (kind_name kind ∷ []) }
 {
-    if LARGEST_KIND < kind {
-        return text(out, at, b"unknown");
-    }
-    name(out, at, kind as u8)
+    text(out, at, name(kind))
 }
 
-fn name(out: &mut [u8], at: usize, number: u8) -> usize
-    ensures { outcome result out.new ≡ put_of out.old at (kind_name number ∷ []) }
+#[tactic(auto, using(base::proofs::Choice::picks), unfolding(crate::specs::Name::kind_name, crate::specs::Name::last_name, base::specs::Table::find))]
+fn name(kind: u32) -> &'static [u8]
+    ensures { result.now ≡ kind_name kind }
+{
+    match u8::try_from(kind) {
+        Ok(number) => name_of(number),
+        Err(_) => b"unknown",
+    }
+}
+
+#[tactic(auto, using(base::proofs::Choice::picks), unfolding(crate::specs::Name::kind_name))]
+fn name_of(number: u8) -> &'static [u8]
+    ensures { result.now ≡ kind_name number }
 {
     if number < kind::JSX_FLOW_TAG {
-        return expression_name(out, at, number);
+        return expression_name(number);
     }
     if number < kind::JSX_TAG_ATTRIBUTE_EXPRESSION {
-        return tag_name(out, at, number);
+        return tag_name(number);
     }
     if number < kind::JSX_ES_WHITESPACE {
-        return attribute_name(out, at, number);
+        return attribute_name(number);
     }
-    last_name(out, at, number)
+    last_name(number)
 }
 
-fn expression_name(out: &mut [u8], at: usize, number: u8) -> usize
-    ensures { outcome result out.new ≡ put_of out.old at (expression_name number ∷ []) }
+#[tactic(auto, using(base::proofs::Choice::picks), unfolding(crate::specs::Name::expression_name, base::specs::Table::find))]
+fn expression_name(number: u8) -> &'static [u8]
+    ensures { result.now ≡ expression_name number }
 {
     match number {
-        kind::FLOW_EXPRESSION => text(out, at, b"flow-expression"),
-        kind::TEXT_EXPRESSION => text(out, at, b"text-expression"),
-        kind::EXPRESSION_MARKER => text(out, at, b"expression-marker"),
-        kind::LINE_ENDING => text(out, at, b"line-ending"),
-        kind::EXPRESSION_DATA => text(out, at, b"expression-data"),
-        kind::LINE_PREFIX => text(out, at, b"line-prefix"),
-        _ => text(out, at, b"unknown"),
-    }
-}
-
-fn tag_name(out: &mut [u8], at: usize, number: u8) -> usize
-    ensures { outcome result out.new ≡ put_of out.old at (tag_name number ∷ []) }
-{
-    match number {
-        kind::JSX_FLOW_TAG => text(out, at, b"jsx-flow-tag"),
-        kind::JSX_TEXT_TAG => text(out, at, b"jsx-text-tag"),
-        kind::JSX_TAG_MARKER => text(out, at, b"jsx-tag-marker"),
-        kind::JSX_TAG_CLOSING_MARKER => text(out, at, b"jsx-tag-closing-marker"),
-        kind::JSX_TAG_NAME => text(out, at, b"jsx-tag-name"),
-        kind::JSX_TAG_NAME_PRIMARY => text(out, at, b"jsx-tag-name-primary"),
-        kind::JSX_TAG_NAME_MEMBER_MARKER => text(out, at, b"jsx-tag-name-member-marker"),
-        kind::JSX_TAG_NAME_PREFIX_MARKER => text(out, at, b"jsx-tag-name-prefix-marker"),
-        kind::JSX_TAG_NAME_MEMBER => text(out, at, b"jsx-tag-name-member"),
-        kind::JSX_TAG_NAME_LOCAL => text(out, at, b"jsx-tag-name-local"),
-        kind::JSX_TAG_SELF_CLOSING_MARKER => text(out, at, b"jsx-tag-self-closing-marker"),
-        _ => text(out, at, b"unknown"),
+        kind::FLOW_EXPRESSION => b"flow-expression",
+        kind::TEXT_EXPRESSION => b"text-expression",
+        kind::EXPRESSION_MARKER => b"expression-marker",
+        kind::LINE_ENDING => b"line-ending",
+        kind::EXPRESSION_DATA => b"expression-data",
+        kind::LINE_PREFIX => b"line-prefix",
+        _ => b"unknown",
     }
 }
 
-fn attribute_name(out: &mut [u8], at: usize, number: u8) -> usize
-    ensures { outcome result out.new ≡ put_of out.old at (attribute_name number ∷ []) }
+#[tactic(auto, using(base::proofs::Choice::picks), unfolding(crate::specs::Name::tag_name, base::specs::Table::find))]
+fn tag_name(number: u8) -> &'static [u8]
+    ensures { result.now ≡ tag_name number }
 {
     match number {
-        kind::JSX_TAG_ATTRIBUTE_EXPRESSION => text(out, at, b"jsx-tag-attribute-expression"),
-        kind::JSX_TAG_ATTRIBUTE => text(out, at, b"jsx-tag-attribute"),
-        kind::JSX_TAG_ATTRIBUTE_NAME => text(out, at, b"jsx-tag-attribute-name"),
-        kind::JSX_TAG_ATTRIBUTE_PRIMARY_NAME => text(out, at, b"jsx-tag-attribute-primary-name"),
-        kind::JSX_TAG_ATTRIBUTE_NAME_PREFIX_MARKER => text(
-            out,
-            at,
-            b"jsx-tag-attribute-name-prefix-marker",
-        ),
-        kind::JSX_TAG_ATTRIBUTE_INITIALIZER_MARKER => text(
-            out,
-            at,
-            b"jsx-tag-attribute-initializer-marker",
-        ),
-        kind::JSX_TAG_ATTRIBUTE_NAME_LOCAL => text(out, at, b"jsx-tag-attribute-name-local"),
-        kind::JSX_TAG_ATTRIBUTE_VALUE_LITERAL => text(out, at, b"jsx-tag-attribute-value-literal"),
-        kind::JSX_TAG_ATTRIBUTE_VALUE_LITERAL_MARKER => text(
-            out,
-            at,
-            b"jsx-tag-attribute-value-literal-marker",
-        ),
-        kind::JSX_TAG_ATTRIBUTE_VALUE_EXPRESSION => text(
-            out,
-            at,
-            b"jsx-tag-attribute-value-expression",
-        ),
-        kind::JSX_TAG_ATTRIBUTE_VALUE_LITERAL_VALUE => text(
-            out,
-            at,
-            b"jsx-tag-attribute-value-literal-value",
-        ),
-        _ => text(out, at, b"unknown"),
+        kind::JSX_FLOW_TAG => b"jsx-flow-tag",
+        kind::JSX_TEXT_TAG => b"jsx-text-tag",
+        kind::JSX_TAG_MARKER => b"jsx-tag-marker",
+        kind::JSX_TAG_CLOSING_MARKER => b"jsx-tag-closing-marker",
+        kind::JSX_TAG_NAME => b"jsx-tag-name",
+        kind::JSX_TAG_NAME_PRIMARY => b"jsx-tag-name-primary",
+        kind::JSX_TAG_NAME_MEMBER_MARKER => b"jsx-tag-name-member-marker",
+        kind::JSX_TAG_NAME_PREFIX_MARKER => b"jsx-tag-name-prefix-marker",
+        kind::JSX_TAG_NAME_MEMBER => b"jsx-tag-name-member",
+        kind::JSX_TAG_NAME_LOCAL => b"jsx-tag-name-local",
+        kind::JSX_TAG_SELF_CLOSING_MARKER => b"jsx-tag-self-closing-marker",
+        _ => b"unknown",
     }
 }
 
-fn last_name(out: &mut [u8], at: usize, number: u8) -> usize
-    ensures { outcome result out.new ≡ put_of out.old at (last_name number ∷ []) }
+#[tactic(auto, using(base::proofs::Choice::picks), unfolding(crate::specs::Name::attribute_name, base::specs::Table::find))]
+fn attribute_name(number: u8) -> &'static [u8]
+    ensures { result.now ≡ attribute_name number }
 {
     match number {
-        kind::JSX_ES_WHITESPACE => text(out, at, b"jsx-es-whitespace"),
-        kind::ESM => text(out, at, b"esm"),
-        kind::ESM_DATA => text(out, at, b"esm-data"),
-        _ => text(out, at, b"unknown"),
+        kind::JSX_TAG_ATTRIBUTE_EXPRESSION => b"jsx-tag-attribute-expression",
+        kind::JSX_TAG_ATTRIBUTE => b"jsx-tag-attribute",
+        kind::JSX_TAG_ATTRIBUTE_NAME => b"jsx-tag-attribute-name",
+        kind::JSX_TAG_ATTRIBUTE_PRIMARY_NAME => b"jsx-tag-attribute-primary-name",
+        kind::JSX_TAG_ATTRIBUTE_NAME_PREFIX_MARKER => b"jsx-tag-attribute-name-prefix-marker",
+        kind::JSX_TAG_ATTRIBUTE_INITIALIZER_MARKER => b"jsx-tag-attribute-initializer-marker",
+        kind::JSX_TAG_ATTRIBUTE_NAME_LOCAL => b"jsx-tag-attribute-name-local",
+        kind::JSX_TAG_ATTRIBUTE_VALUE_LITERAL => b"jsx-tag-attribute-value-literal",
+        kind::JSX_TAG_ATTRIBUTE_VALUE_LITERAL_MARKER => b"jsx-tag-attribute-value-literal-marker",
+        kind::JSX_TAG_ATTRIBUTE_VALUE_EXPRESSION => b"jsx-tag-attribute-value-expression",
+        kind::JSX_TAG_ATTRIBUTE_VALUE_LITERAL_VALUE => b"jsx-tag-attribute-value-literal-value",
+        _ => b"unknown",
+    }
+}
+
+#[tactic(auto, using(base::proofs::Choice::picks), unfolding(crate::specs::Name::last_name, base::specs::Table::find))]
+fn last_name(number: u8) -> &'static [u8]
+    ensures { result.now ≡ last_name number }
+{
+    match number {
+        kind::JSX_ES_WHITESPACE => b"jsx-es-whitespace",
+        kind::ESM => b"esm",
+        kind::ESM_DATA => b"esm-data",
+        _ => b"unknown",
     }
 }

@@ -2,7 +2,9 @@
 // buffer; and such a buffer on its way to standard output.
 //
 // Each function puts its text at a place of the buffer and answers the place past it. A piece of text that does not fit is not
-// put there at all, and the place stays. A place past the buffer's end counts as its end.
+// put there at all, and the place stays. A place past the buffer's end counts as its end. `write!` into a lent slice would cut it.
+//
+// The buffer and the place stay two parameters: each public function takes them, and of a struct each clause would name the same two.
 #![tactic(auto)]
 
 mod answers;

@@ -4,8 +4,8 @@ ghost use Rattle.report.specs.EventText.{sign_of, verb_of, point_pieces, tab_pie
 ghost use Rattle.report.specs.Put.{outcome, put_of};
 
 use crate::kinds::kind_name;
-use crate::pieces::{in_room, joined, text};
-use base::{InTab, columns};
+use crate::pieces::{joined, text};
+use base::InTab;
 use events::Event;
 
 // A space, `+` or `-`, the name, `@` and the offset, its line and its column, and inside a tab how far.
@@ -14,19 +14,16 @@ pub fn event_mark(out: &mut [u8], at: usize, event: Event) -> usize
     ensures out_after { outcome result out.new ≡ put_of out.old at (mark_pieces event) }
 {
     let tab = event.tab;
-    let past = sign(out, at, event.exit);
+    let past = text(out, at, sign(event.exit));
     let past = kind_name(out, past, event.kind);
     let past = point(out, past, b"@", b":", event);
     in_tab(out, past, b"~", tab)
 }
 
-fn sign(out: &mut [u8], at: usize, exit: bool) -> usize
-    ensures { outcome result out.new ≡ put_of out.old at (sign_of exit ∷ []) }
+fn sign(exit: bool) -> &'static [u8]
+    ensures { result.now ≡ sign_of exit }
 {
-    if exit {
-        return text(out, at, b" -");
-    }
-    text(out, at, b" +")
+    if exit { b" -" } else { b" +" }
 }
 
 // The offset, its line and its column, a joint before each.
@@ -43,9 +40,9 @@ fn point(out: &mut [u8], at: usize, first: &[u8], joint: &[u8], event: Event) ->
 fn in_tab(out: &mut [u8], at: usize, joint: &[u8], tab: InTab) -> usize
     ensures { outcome result out.new ≡ put_of out.old at (tab_pieces joint.now tab) }
 {
-    let passed = columns(tab);
+    let passed = usize::from(tab.columns());
     if passed == 0 {
-        return in_room(out.len(), at);
+        return at.min(out.len());
     }
     joined(out, at, joint, passed)
 }
@@ -55,18 +52,15 @@ pub fn event_line(out: &mut [u8], at: usize, event: Event) -> usize
     ensures { outcome result out.new ≡ put_of out.old at (line_pieces event) }
 {
     let tab = event.tab;
-    let past = verb(out, at, event.exit);
+    let past = text(out, at, verb(event.exit));
     let past = kind_name(out, past, event.kind);
     let past = point(out, past, b" ", b" ", event);
     let past = in_tab(out, past, b" ~", tab);
     text(out, past, b"\n")
 }
 
-fn verb(out: &mut [u8], at: usize, exit: bool) -> usize
-    ensures { outcome result out.new ≡ put_of out.old at (verb_of exit ∷ []) }
+fn verb(exit: bool) -> &'static [u8]
+    ensures { result.now ≡ verb_of exit }
 {
-    if exit {
-        return text(out, at, b"exit ");
-    }
-    text(out, at, b"enter ")
+    if exit { b"exit " } else { b"enter " }
 }

@@ -3,7 +3,8 @@
 //
 // What was written out before can't be taken back, and no contract says what a program's output is: the contracts say what is
 // in the buffer.
-ghost use Rattle.std.specs.Prelude.{◌≡◌, [], ◌∷◌, ◌≤◌, length};
+ghost use Rattle.std.specs.Prelude.{◌≡◌, ℕ, List, [], ◌∷◌, ◌≤◌, length};
+ghost use Rattle.events.specs.declared.Event.{Event};
 ghost use Rattle.report.specs.Decimal.{decimal};
 ghost use Rattle.report.specs.EventText.{mark_pieces, line_pieces};
 ghost use Rattle.report.specs.Hex.{field_of};
@@ -11,7 +12,8 @@ ghost use Rattle.report.specs.Output.{free_place, field_room, number_room, bad_l
 ghost use Rattle.report.specs.Put.{outcome, put_of};
 
 use crate::marks::{event_line, event_mark};
-use crate::pieces::{hex, in_room, number, text};
+use crate::pieces::{hex, number, text};
+use events::Event;
 use std::fs;
 use std::fs::OpenOptions;
 use std::io::Write;
@@ -32,11 +34,12 @@ const STATUS_FILE: &str = "/proc/self/fd/3";
 const WRITABLE: u32 = 0o200;
 
 // The place to go on at: the buffer is written out where so many bytes do not fit any more.
+#[tactic(auto, using(base::proofs::Choice::picks), unfolding(crate::specs::Output::free_place))]
 pub fn make_room(rt: &impl Print, out: &[u8], used: usize, count: usize) -> usize
     ensures value { result ≡ free_place (length out.now) used count }
     ensures upper_bound { result ≤ length out.now }
 {
-    let at = in_room(out.len(), used);
+    let at = used.min(out.len());
     if out.len() - at < count {
         let _ = rt.write_all(&out[0..at]);
         return 0;
@@ -46,22 +49,19 @@ pub fn make_room(rt: &impl Print, out: &[u8], used: usize, count: usize) -> usiz
 
 // The buffer is written out.
 pub fn flush(rt: &impl Print, out: &[u8], used: usize) {
-    let at = in_room(out.len(), used);
+    let at = used.min(out.len());
     let _ = rt.write_all(&out[0..at]);
 }
 
 // How a program ended, for whoever started it with a place for it: 0, 1 or 2, as a line on descriptor 3. Its exit status is 0 in each
 // case; where that descriptor is not open, nothing happens.
 pub fn say_status(rt: &impl Files, status: u8) {
-    if status == 0 {
-        write_status(rt, b"0\n");
-        return;
-    }
-    if status == 1 {
-        write_status(rt, b"1\n");
-        return;
-    }
-    write_status(rt, b"2\n");
+    let line = match status {
+        0 => b"0\n",
+        1 => b"1\n",
+        _ => b"2\n",
+    };
+    write_status(rt, line);
 }
 
 // The line goes behind what stands there.
@@ -119,6 +119,7 @@ pub fn put_bad_line(rt: &impl Print, out: &mut [u8], used: usize, line: u64, why
 }
 
 // How many lines could not be read, where there were any.
+#[tactic(auto, using(base::proofs::Choice::picks), unfolding(crate::specs::Output::bad_lines_put))]
 pub fn put_bad_lines(rt: &impl Print, out: &mut [u8], used: usize, count: u64) -> usize
     ensures { outcome result out.new ≡ bad_lines_put out.old used count }
 {
@@ -139,6 +140,7 @@ pub fn put_hex(rt: &impl Print, out: &mut [u8], used: usize, bytes: &[u8]) -> us
 }
 
 // What a field of so many bytes takes of a buffer with so much room.
+#[tactic(auto, using(base::proofs::Choice::picks), unfolding(crate::specs::Output::field_room))]
 fn field_room(room: usize, count: usize) -> usize
     ensures { result ≡ field_room room count }
 {
@@ -151,19 +153,39 @@ fn field_room(room: usize, count: usize) -> usize
     count * 2
 }
 
+// How an event is put.
+trait EventText {
+    ghost pieces: { Event → List (List ℕ) };
+
+    fn put(out: &mut [u8], at: usize, event: Event) -> usize
+        ensures { outcome result out.new ≡ put_of out.old at (pieces event) };
+}
+
+struct Mark;
+
+impl EventText for Mark {
+    ghost pieces = { mark_pieces };
+
+    fn put(out: &mut [u8], at: usize, event: Event) -> usize {
+        event_mark(out, at, event)
+    }
+}
+
+struct Row;
+
+impl EventText for Row {
+    ghost pieces = { line_pieces };
+
+    fn put(out: &mut [u8], at: usize, event: Event) -> usize {
+        event_line(out, at, event)
+    }
+}
+
 // A mark for each of the first `count` events, as far as there are words.
 pub fn put_marks(rt: &impl Print, out: &mut [u8], used: usize, words: &[u32], count: usize) -> usize
     ensures { outcome result out.new ≡ put_each mark_pieces out.old used (first_events words.now count) }
 {
-    let most = events::room::held(count, words.len());
-    let mut at = used;
-    let mut k = 0;
-    while k < most {
-        let place = make_room(rt, out, at, EVENT_ROOM);
-        at = event_mark(out, place, events::read(words, k));
-        k += 1;
-    }
-    at
+    put_events::<Mark>(rt, out, used, words, count)
 }
 
 // A line for each of them.
@@ -176,13 +198,23 @@ pub fn put_event_lines(
 ) -> usize
     ensures { outcome result out.new ≡ put_each line_pieces out.old used (first_events words.now count) }
 {
+    put_events::<Row>(rt, out, used, words, count)
+}
+
+fn put_events<T: EventText>(
+    rt: &impl Print,
+    out: &mut [u8],
+    used: usize,
+    words: &[u32],
+    count: usize,
+) -> usize
+    ensures { outcome result out.new ≡ put_each T.pieces out.old used (first_events words.now count) }
+{
     let most = events::room::held(count, words.len());
     let mut at = used;
-    let mut k = 0;
-    while k < most {
+    for k in 0..most {
         let place = make_room(rt, out, at, EVENT_ROOM);
-        at = event_line(out, place, events::read(words, k));
-        k += 1;
+        at = T::put(out, place, events::read(words, k));
     }
     at
 }

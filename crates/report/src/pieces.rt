@@ -3,41 +3,24 @@ ghost use Rattle.std.specs.Prelude.{◌≡◌, [], ◌∷◌, ◌+◌, ◌*◌, 
 ghost use Rattle.std.proofs.lemmas.List.Edits.{sets};
 ghost use Rattle.report.specs.Decimal.{decimal, joined_pieces, spaced_pieces, value_pieces};
 ghost use Rattle.report.specs.Hex.{digit_of, hex_of, field_of};
-ghost use Rattle.report.specs.Put.{in_room, outcome, put_of};
-
-// A place past the end counts as the end.
-pub fn in_room(room: usize, at: usize) -> usize
-    ensures value { result ≡ in_room room at }
-    ensures upper_bound { result ≤ room }
-{
-    if at < room { at } else { room }
-}
+ghost use Rattle.report.specs.Put.{outcome, put_of};
 
 // The bytes, whole or not at all.
+#[tactic(auto, using(crate::proofs::Puts::no_room, crate::proofs::Puts::all_put))]
 pub fn text(out: &mut [u8], at: usize, bytes: &[u8]) -> usize
     ensures upper_bound { result ≤ length out.new }
     ensures out_after { outcome result out.new ≡ put_of out.old at (bytes.now ∷ []) }
 {
-    let place = in_room(out.len(), at);
+    let place = at.min(out.len());
     if out.len() - place < bytes.len() {
         return place;
     }
-    copy(out, place, bytes);
+    out[place..place + bytes.len()].copy_from_slice(bytes);
     place + bytes.len()
 }
 
-fn copy(out: &mut [u8], at: usize, bytes: &[u8])
-    requires { at + length bytes.now ≤ length out.old }
-    ensures { out.new ≡ sets out.old at bytes.now }
-{
-    let mut i = 0;
-    while i < bytes.len() {
-        out[at + i] = bytes[i];
-        i += 1;
-    }
-}
-
 // The number's decimal digits, as few as it has.
+#[tactic(auto, using(crate::proofs::Decimals::fewest_is))]
 pub fn number(out: &mut [u8], at: usize, n: u64) -> usize
     ensures { outcome result out.new ≡ put_of out.old at (decimal n ∷ []) }
 {
@@ -63,24 +46,26 @@ pub fn spaced(out: &mut [u8], at: usize, n: usize) -> usize
     joined(out, at, b" ", n)
 }
 
-// The same, or nothing where the number is not carried.
-pub fn value(out: &mut [u8], at: usize, carried: bool, n: usize) -> usize
-    ensures { outcome result out.new ≡ put_of out.old at (value_pieces carried n) }
+// The same of a number that is carried, else nothing.
+#[tactic(auto, using(crate::proofs::Puts::nothing_put))]
+pub fn value(out: &mut [u8], at: usize, n: Option<usize>) -> usize
+    ensures { outcome result out.new ≡ put_of out.old at (value_pieces n) }
 {
-    if carried {
-        return spaced(out, at, n);
+    match n {
+        Some(n) => spaced(out, at, n),
+        None => at.min(out.len()),
     }
-    in_room(out.len(), at)
 }
 
 // A field of bytes: two hex digits for each, or `-` where there are none. It is put whole or not at all.
+#[tactic(auto, using(crate::proofs::Digits::no_bytes, crate::proofs::Digits::field_no_room))]
 pub fn hex(out: &mut [u8], at: usize, bytes: &[u8]) -> usize
     ensures { outcome result out.new ≡ put_of out.old at (field_of bytes.now ∷ []) }
 {
     if bytes.len() == 0 {
         return text(out, at, b"-");
     }
-    let place = in_room(out.len(), at);
+    let place = at.min(out.len());
     if (out.len() - place) / 2 < bytes.len() {
         return place;
     }
@@ -92,15 +77,13 @@ fn put_digits(out: &mut [u8], at: usize, bytes: &[u8])
     requires { at + length bytes.now * 2 ≤ length out.old }
     ensures { out.new ≡ sets out.old at (hex_of bytes.now) }
 {
-    let mut i = 0;
-    while i < bytes.len() {
-        let b = bytes[i];
-        out[at + i * 2] = hex_digit(b / 16);
-        out[at + i * 2 + 1] = hex_digit(b % 16);
-        i += 1;
+    for (i, b) in bytes.iter().enumerate() {
+        out[at + i * 2] = hex_digit(*b / 16);
+        out[at + i * 2 + 1] = hex_digit(*b % 16);
     }
 }
 
+#[tactic(auto, using(base::proofs::Choice::picks), unfolding(crate::specs::Hex::digit_of))]
 fn hex_digit(n: u8) -> u8
     requires { n < 16 }
     ensures { result ≡ digit_of n }

@@ -12,41 +12,28 @@ use events::WIDTH;
 // The most events that are written at one byte, and at the page's end.
 pub const AT_EACH_BYTE: usize = 6;
 
-// How many words are enough for a page.
-#[derive(Clone, Copy)]
-pub enum Enough {
-    Words(usize),
-    // No page is so long.
-    TooLong,
-}
-
-// The longest page for which a room is enough.
-#[derive(Clone, Copy)]
-pub enum Longest {
-    // It is not enough for the empty page.
-    NoPage,
-    Bytes(usize),
-}
-
-// The words of an event buffer that no scan of a page of so many bytes fills. A worker needs sixteen times as many.
-pub fn words_enough(length: usize) -> Enough
+// The words of an event buffer that no scan of a page of so many bytes fills; nothing, where no page is so long. A worker needs sixteen
+// times as many.
+#[tactic(auto, using(base::proofs::Choice::picks), unfolding(crate::specs::Room::enough_of))]
+pub fn words_enough(length: usize) -> Option<usize>
     ensures { enough_by result ≡ enough_of length }
 {
     if PAGE_LIMIT < length {
-        return Enough::TooLong;
+        return None;
     }
-    Enough::Words(AT_EACH_BYTE * (length + 1) * WIDTH)
+    Some(AT_EACH_BYTE * (length + 1) * WIDTH)
 }
 
-// The longest page that a room of so many events is enough for.
-pub fn longest_page(room: usize) -> Longest
+// The longest page that a room of so many events is enough for; nothing, where it is not enough for the empty page.
+#[tactic(auto, using(base::proofs::Choice::picks), unfolding(crate::specs::Room::longest_of))]
+pub fn longest_page(room: usize) -> Option<usize>
     ensures { longest_by result ≡ longest_of room }
 {
     if room < AT_EACH_BYTE {
-        return Longest::NoPage;
+        return None;
     }
     if AT_EACH_BYTE * (PAGE_LIMIT + 1) <= room {
-        return Longest::Bytes(PAGE_LIMIT);
+        return Some(PAGE_LIMIT);
     }
-    Longest::Bytes(room / AT_EACH_BYTE - 1)
+    Some(room / AT_EACH_BYTE - 1)
 }

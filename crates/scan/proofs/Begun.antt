@@ -4,13 +4,13 @@ use native.Mathlib.Omega.{arith}
 use mathlib.Core.Path.{◌≡◌, refl, sym, ap, ◌∙◌}
 use mathlib.Core.Bool.{true}
 use mathlib.Core.List.{List}
+use Rattle.std.specs.Prelude.{Result, Ok, Err}
 use Rattle.base.specs.If.{when◌then◌else◌}
 use Rattle.base.proofs.Choice.{case}
 use Rattle.page.specs.declared.line.Line.{Line}
 use Rattle.page.specs.Page.{page_of, page_check, Admitted}
 use Rattle.page.specs.Text.{GoodText}
-use Rattle.page.specs.declared.Checked.{Checked}
-use Rattle.page.specs.declared.Checked.TheVariants as checked
+use Rattle.page.specs.declared.Fault.{Fault}
 use Rattle.page.proofs.Answers.{admits_is, good_line}
 use Rattle.scan.specs.declared.Scan.{Scan}
 use Rattle.scan.specs.Answer.{Said}
@@ -34,16 +34,14 @@ module _ (bytes : List ℕ) (at n start construct kind flags words : ℕ) where
       never : {A : Type 0} {a : Said} → not_started a ≡ started s → A
       never x = let z : ◌≡◌ {A = ℕ} 0 1 = cc in absurd (omega (arith, z))
 
-      by : numbers_listed construct kind flags ≡ true → (x : Checked) → page_check bytes at n start ≡ x → begun_if x (job_of construct kind flags n start words) ≡ started s → Begins s
-      by l (checked.Good line) c x =
+      by : numbers_listed construct kind flags ≡ true → (x : Result Line Fault) → page_check bytes at n start ≡ x → begun_if x (job_of construct kind flags n start words) ≡ started s → Begins s
+      by l (Ok line) c x =
           let g = good_line bytes at n start line c in
           let e : fresh_in line (job_of construct kind flags n start words) ≡ s = cc in
           record {
             fresh = sym e ∙ ap (λ (k : Line). fresh_in k (job_of construct kind flags n start words)) g.0;
             admitted = g.1;
-            text = ((admits_is bytes at n start).0 (c ∙ ap checked.Good g.0)).1;
+            text = ((admits_is bytes at n start).0 (c ∙ ap Ok g.0)).1;
             listed = l;
           }
-      by l checked.TooLong c x = never x
-      by l checked.BadStart c x = never x
-      by l (checked.BadText p) c x = never x
+      by l (Err fault) c x = never x

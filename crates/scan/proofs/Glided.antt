@@ -8,9 +8,9 @@ use mathlib.Core.Bool.{Bool, true, false, not, true≢false}
 use mathlib.Core.List.{List}
 use lib.ListN.{length, get_or}
 use lib.Dec.{eqb, ltb}
-use borrow.Author.Tests.{lt-ltb, le-ltb, ltb-true, ltb-false, eq-eqb}
+use borrow.Author.Tests.{lt-ltb, le-ltb, eq-eqb}
 use Rattle.base.specs.If.{when◌then◌else◌}
-use Rattle.base.proofs.Choice.{if_yes, if_no, if_is}
+use Rattle.base.proofs.Choice.{if_yes, if_no}
 use Rattle.base.specs.Byte.{end_of_page}
 use Rattle.base.specs.Page.{byte_at}
 use Rattle.base.specs.Decide.{eat}
@@ -55,8 +55,8 @@ not_no true e = refl
 not_no false e = sym e
 
 module _ (page : List ℕ) (name quote from limit : ℕ) where
-  pub gliding_none : GlidesTo page name quote from limit from
-  gliding_none = record { onward = omega arith; within = λ h. h; each = λ i h l. absurd (omega arith) }
+  pub gliding_none : from ≤ limit → GlidesTo page name quote from limit from
+  gliding_none h = record { onward = omega arith; within = h; each = λ i h l. absurd (omega arith) }
 
   pub gliding_more : (end : ℕ) (r : Bool) → GlidesTo page name quote from limit end → end < limit → limit ≤ length page → Glides name quote (get_or page end 0) r → r ≡ true → GlidesTo page name quote from limit (end + 1)
   unfolding byte_at
@@ -64,7 +64,7 @@ module _ (page : List ℕ) (name quote from limit : ℕ) where
       let here : get_or page end 0 ≡ byte_at page end = if_yes ℕ (ltb end (length page)) _ (get_or page end 0) 256 (lt-ltb end (length page) (omega arith)) refl in
       record {
         onward = omega (arith, g.onward);
-        within = λ f. omega arith;
+        within = omega arith;
         each = λ i a b.
             by_cases (dec_le end i)
             (λ (e : end ≤ i). let z : end ≡ i = omega arith in rw (← z, ← here, ← y) d)
@@ -74,13 +74,13 @@ module _ (page : List ℕ) (name quote from limit : ℕ) where
 -- so many steps reach no further than the page's end
 module _ (n at left : ℕ) (h : at ≤ n) where
   pub furthest_on_page : furthest_place n at left ≤ n
-  furthest_on_page = if_is ℕ (λ (k : ℕ). k ≤ n) (ltb left (n - at)) (at + left) n (λ e. omega (arith, ltb-true left (n - at) e)) (λ e. omega arith)
+  furthest_on_page = omega arith
 
   furthest_in_reach : furthest_place n at left ≤ at + left
-  furthest_in_reach = if_is ℕ (λ (k : ℕ). k ≤ at + left) (ltb left (n - at)) (at + left) n (λ e. omega arith) (λ e. omega (arith, ltb-false left (n - at) e))
+  furthest_in_reach = omega arith
 
-  furthest_onward : at < n → 0 < left → at < furthest_place n at left
-  furthest_onward l k = if_is ℕ (λ (k : ℕ). at < k) (ltb left (n - at)) (at + left) n (λ e. omega arith) (λ e. l)
+  pub furthest_onward : at < n → 0 < left → at < furthest_place n at left
+  furthest_onward l k = omega arith
 
 -- where there is a byte, the page has not ended
 pub before_end : (page : List ℕ) (at : ℕ) → eqb (byte_at page at) end_of_page ≡ false → at < length page
@@ -96,7 +96,7 @@ before_end page at f =
 module _ (page : List ℕ) (name quote at left : ℕ) (within : at ≤ length page) (spare : 0 < left) (first : Glides name quote (byte_at page at) true) where
   pub glided : (end : ℕ) → GlidesTo page name quote (at + 1) (furthest_place (length page) at left) end → Glided page name quote at left (end - at)
   glided end rest =
-      let l = rest.within (omega (arith, furthest_onward (length page) at left within (before_end page at (first.on_page refl)) spare)) in
+      let l = rest.within in
       record {
         some = omega (arith, rest.onward);
         enough = omega (arith, l, furthest_in_reach (length page) at left within);

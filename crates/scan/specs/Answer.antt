@@ -10,6 +10,8 @@ use Rattle.base.specs.State as state
 use Rattle.base.specs.State.{first_running}
 use Rattle.base.specs.Number as number
 use Rattle.base.specs.declared.InTab.TheVariants.{Outside}
+use Rattle.page.specs.declared.Fault.{Fault}
+use Rattle.page.specs.declared.Fault.TheVariants as fault
 use Rattle.page.specs.declared.line.Spot.{Spot}
 use Rattle.scan.specs.declared.Tally.{Tally}
 use Rattle.scan.specs.declared.Answer.{Answer}
@@ -71,6 +73,12 @@ said_by Kept = said 33 []
 -- 12
 abbrev pub refused : Said
 refused = said number.bad_call []
+
+-- 2, 3 and 4
+abbrev pub refused_for : Fault → Said
+refused_for fault.TooLong = said number.too_long []
+refused_for fault.BadStart = said number.bad_start []
+refused_for (fault.BadText p) = said number.bad_text (placed p [])
 
 abbrev pub tally_of : Scan → Tally
 tally_of s = record { events = s.used; steps = s.steps }

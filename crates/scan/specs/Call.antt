@@ -3,7 +3,7 @@
 -- docs/SCOPE.md, 'The answer table': "12, 2, 3, 4, in that order, come before any step and write nothing." 'The worker' lists what 12 is
 -- given for: a number not listed in docs/, a state outside the ranges, a verdict nobody awaits or whose number is out of range, an
 -- allowance of 0, a single scan resumed when finished, without its verdict, or with a page or event buffer of another length.
-use Rattle.std.specs.Prelude.{ℕ, ◌+◌, ◌-◌, ◌*◌, ◌%◌, Bool, false, ◌&&◌, List, [], length, leb, ltb, eqb}
+use Rattle.std.specs.Prelude.{ℕ, ◌+◌, ◌-◌, ◌*◌, ◌%◌, Bool, false, ◌&&◌, List, [], Result, Ok, Err, length, leb, ltb, eqb}
 use Rattle.base.specs.If.{when◌then◌else◌}
 use Rattle.base.specs.State.{nok, asking, first_running, mdx_expression_start, mdx_expression_verdict, mdx_jsx_start, mdx_esm_start, mdx_esm_verdict}
 use Rattle.base.specs.Number as number
@@ -13,18 +13,16 @@ use Rattle.events.specs.Words.{room_in}
 use Rattle.page.specs.declared.line.Line.{Line}
 use Rattle.page.specs.Line.{line_at, first_line}
 use Rattle.page.specs.Page.{page_of, page_check}
-use Rattle.page.specs.declared.Checked.{Checked}
-use Rattle.page.specs.declared.Checked.TheVariants as checked
+use Rattle.page.specs.declared.Fault.{Fault}
 use Rattle.tokenizer.specs.declared.Job.{Job}
 use Rattle.tokenizer.specs.Registers.{no_regs}
 use Rattle.tokenizer.specs.Ranges.{tag, esm, construct_listed, kind_listed, in_range, verdict_in_range}
 use Rattle.scan.specs.declared.Scan.{Scan}
 use Rattle.scan.specs.declared.Ran.{Ran}
-use Rattle.scan.specs.declared.Began.{Began}
-use Rattle.scan.specs.declared.Began.TheVariants as began
+use Rattle.scan.specs.declared.Answer.{Answer}
 use Rattle.scan.specs.Lines.{first_lines, lines_in_range}
 use Rattle.scan.specs.Scan.{step_bound, run_scan, run_words}
-use Rattle.scan.specs.Answer.{Said, said, placed, said_by, refused, answer_of}
+use Rattle.scan.specs.Answer.{Said, said, said_by, refused, refused_for, answer_of}
 
 -- a scan that a call can have given, by the ranges of docs/NUMBERS.md
 unfoldable pub scan_in_range : Scan → Bool
@@ -151,16 +149,15 @@ pub data Begun : Type 0 where
   started : Scan → Begun
   not_started : Said → Begun
 
-abbrev pub begun_by : Began → Begun
-begun_by (began.Started s) = started s
-begun_by (began.Refused a) = not_started (said_by a)
+-- as the code hands it back
+abbrev pub begun_by : Result Scan Answer → Begun
+begun_by (Ok s) = started s
+begun_by (Err a) = not_started (said_by a)
 
--- rows 2, 3 and 4
-abbrev pub begun_if : Checked → Job → Begun
-begun_if (checked.Good line) j = started (fresh_in line j)
-begun_if checked.TooLong j = not_started (said number.too_long [])
-begun_if checked.BadStart j = not_started (said number.bad_start [])
-begun_if (checked.BadText p) j = not_started (said number.bad_text (placed p []))
+-- if its page is good
+abbrev pub begun_if : Result Line Fault → Job → Begun
+begun_if (Ok line) j = started (fresh_in line j)
+begun_if (Err fault) j = not_started (refused_for fault)
 
 -- a page of n bytes at a place of the lent bytes, with an event buffer of so many words
 unfoldable pub begin_of : List ℕ → ℕ → ℕ → ℕ → ℕ → ℕ → ℕ → ℕ → Begun

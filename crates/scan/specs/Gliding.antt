@@ -1,5 +1,5 @@
 -- What the short way asks and gives. No promise to a user of the library cites these.
-use Rattle.std.specs.Prelude.{ℕ, zero, suc, ◌+◌, ◌-◌, ◌≤◌, ◌<◌, ◌≡◌, Bool, true, false, not, ◌&&◌, ◌||◌, List, [], ◌∷◌, eqb, ltb, length}
+use Rattle.std.specs.Prelude.{ℕ, zero, suc, ◌+◌, ◌-◌, ◌≤◌, ◌<◌, ◌≡◌, Bool, true, false, not, ◌&&◌, ◌||◌, List, [], ◌∷◌, eqb, min, length}
 use Rattle.base.specs.Byte.{tab, line_feed, space, left_brace, right_brace, end_of_page}
 use Rattle.base.specs.If.{when◌then◌else◌, among}
 use Rattle.base.specs.Page.{byte_at}
@@ -53,7 +53,7 @@ pub record Glides (name quote b : ℕ) (r : Bool) : Type 0 where
 -- the same of every byte from one place to another, which is no further than a limit
 pub record GlidesTo (page : List ℕ) (name quote from limit end : ℕ) : Type 0 where
   pub onward : from ≤ end
-  pub within : from ≤ limit → end ≤ limit
+  pub within : end ≤ limit
   pub each : (i : ℕ) → from ≤ i → i < end → Glides name quote (byte_at page i) true
 
 -- k bytes from a place on, one at least, are passed so in as many of the steps that are left
@@ -65,7 +65,7 @@ pub record Glided (page : List ℕ) (name quote at left k : ℕ) : Type 0 where
 
 -- the furthest place that so many steps can reach
 abbrev pub furthest_place : ℕ → ℕ → ℕ → ℕ
-furthest_place end at left = when ltb left (end - at) then at + left else end
+furthest_place end at left = at + min left (end - at)
 
 -- the count of steps after k more
 unfoldable pub counted_on : ℕ → ℕ → ℕ → ℕ

@@ -4,19 +4,19 @@ ghost use Rattle.base.specs.If.{when◌then◌else◌};
 ghost use Rattle.page.specs.Page.{page_check};
 ghost use Rattle.tokenizer.specs.Registers.{no_regs};
 ghost use Rattle.scan.specs.Lines.{first_lines};
-ghost use Rattle.scan.specs.Answer.{refused};
+ghost use Rattle.scan.specs.Answer.{said_by, refused, refused_for};
 ghost use Rattle.scan.specs.Call.{not_started, begun_by, begun_if, numbers_listed, job_of, first_state, fresh_in, no_scan, begin_of, left_by, single_of, whole_of};
 
 use crate::lines::{Lines, lines_of};
 use crate::stepping::step_bound;
-use crate::{Answer, Began, Ran, Scan};
+use crate::{Answer, Ran, Request, Scan};
 use base::{InTab, Verdict, state};
-use page::Checked;
+use page::Fault;
 use page::line::{Line, first_line};
 use tokenizer::ranges::{construct_listed, kind_listed};
 use tokenizer::{Job, Regs, Tokenizer};
 
-// Flags: a verdict source, an interrupt, and both.
+// Flags: a verdict source, an interrupt, and both. They are numbers, since C hands them over so.
 pub const ASKS: u8 = 1;
 
 pub const INTERRUPT: u8 = 2;
@@ -24,6 +24,7 @@ pub const INTERRUPT: u8 = 2;
 const ALL_FLAGS: u8 = 3;
 
 // The state that a scan begins in.
+#[tactic(auto, using(base::proofs::Choice::picks))]
 fn first_state(construct: u8) -> u8
     ensures { result ≡ first_state construct }
 {
@@ -40,61 +41,57 @@ fn first_state(construct: u8) -> u8
 pub fn numbers_listed(construct: u8, kind: u8, flags: u8) -> bool
     ensures { result ≡ numbers_listed construct kind flags }
 {
-    if ALL_FLAGS < flags {
-        return false;
+    flags <= ALL_FLAGS && construct_listed(construct) && kind_listed(kind)
+}
+
+// A page that is refused is no scan's.
+impl From<Fault> for Answer {
+    ghost from_gives = { λ fault answer. said_by answer ≡ refused_for fault };
+
+    fn from(fault: Fault) -> Answer {
+        match fault {
+            Fault::TooLong => Answer::TooLong,
+            Fault::BadStart => Answer::BadStart,
+            Fault::BadText(spot) => Answer::BadText { spot },
+        }
     }
-    if construct_listed(construct) {
-        return kind_listed(kind);
-    }
-    false
 }
 
 // The scan, if its page is good.
-fn begin_if_good(checked: Checked, job: Job) -> Began
+fn begin_if_good(checked: Result<Line, Fault>, job: Job) -> Result<Scan, Answer>
     ensures { begun_by result ≡ begun_if checked job }
 {
-    match checked {
-        Checked::Good(line) => Began::Started(Scan::fresh(job, line)),
-        Checked::TooLong => Began::Refused(Answer::TooLong),
-        Checked::BadStart => Began::Refused(Answer::BadStart),
-        Checked::BadText(spot) => Began::Refused(Answer::BadText { spot }),
-    }
+    let line = checked?;
+    Ok(Scan::fresh(job, line))
 }
 
 // What a scan has to do, by the numbers of docs/NUMBERS.md.
-fn job_of(length: usize, start: usize, construct: u8, kind: u8, flags: u8, words: usize) -> Job
-    ensures { result ≡ job_of construct kind flags length start words }
+fn job_of(request: Request, words: usize) -> Job
+    ensures { result ≡ job_of request.construct request.kind request.flags request.length request.start words }
 {
     Job {
-        construct,
-        kind,
-        asks: flags % INTERRUPT == ASKS,
-        interrupt: INTERRUPT <= flags,
-        length,
-        start,
+        construct: request.construct,
+        kind: request.kind,
+        asks: request.flags % INTERRUPT == ASKS,
+        interrupt: INTERRUPT <= request.flags,
+        length: request.length,
+        start: request.start,
         words,
     }
 }
 
 // A new scan of a page whose check for this start is known.
 fn begin_checked(
-    checked: Checked,
-    length: usize,
-    start: usize,
-    construct: u8,
-    kind: u8,
-    flags: u8,
+    checked: Result<Line, Fault>,
+    request: Request,
     words: usize,
-) -> Began
-    ensures { begun_by result ≡ (when numbers_listed construct kind flags then begun_if checked (job_of construct kind flags length start words) else not_started refused) }
+) -> Result<Scan, Answer>
+    ensures { begun_by result ≡ (when numbers_listed request.construct request.kind request.flags then begun_if checked (job_of request.construct request.kind request.flags request.length request.start words) else not_started refused) }
 {
-    if numbers_listed(construct, kind, flags) {
-        return begin_if_good(
-            checked,
-            job_of(length, start, construct, kind, flags, words),
-        );
+    if numbers_listed(request.construct, request.kind, request.flags) {
+        return begin_if_good(checked, job_of(request, words));
     }
-    Began::Refused(Answer::BadCall)
+    Err(Answer::BadCall)
 }
 
 // The lines of a scan that begins in a line: nothing is looked ahead yet.
@@ -161,68 +158,43 @@ fn not_begun(answer: Answer) -> Ran
     Ran { scan, answer }
 }
 
-// A single scan in one call: the page that begins at `at` of the lent bytes and is `length` long is scanned from `start` on, with at most
-// `allowance` steps. 12 comes first, also for an allowance of 0, then 2, 3 and 4. Where it answers Asking or Paused, the scan that is
-// handed back goes on with `give` and `run`.
+// A single scan in one call: the page is scanned with at most `allowance` steps. 12 comes first, also for an allowance of 0, then 2, 3
+// and 4. Where it answers Asking or Paused, the scan that is handed back goes on with `give` and `run`.
 #[tactic(auto, using(crate::proofs::Singles::none_allowed))]
-pub fn single(
-    bytes: &[u8],
-    at: usize,
-    length: usize,
-    start: usize,
-    construct: u8,
-    kind: u8,
-    flags: u8,
-    allowance: usize,
-    events: &mut [u32],
-) -> Ran
-    ensures { left_by result events.new ≡ single_of bytes.now at length start construct kind flags allowance events.old }
+pub fn single(bytes: &[u8], request: Request, allowance: usize, events: &mut [u32]) -> Ran
+    ensures { left_by result events.new ≡ single_of bytes.now request.at request.length request.start request.construct request.kind request.flags allowance events.old }
 {
     if allowance == 0 {
         return not_begun(Answer::BadCall);
     }
-    let began = Scan::new(
-        bytes,
-        at,
-        length,
-        start,
-        construct,
-        kind,
-        flags,
-        events.len(),
-    );
+    let began = Scan::new(bytes, request, events.len());
     match began {
-        Began::Started(scan) => {
-            let end = at + length;
-            scan.run(&bytes[at..end], events, allowance)
+        Ok(scan) => {
+            let end = request.at + request.length;
+            scan.run(&bytes[request.at..end], events, allowance)
         }
-        Began::Refused(answer) => not_begun(answer),
+        Err(answer) => not_begun(answer),
     }
 }
 
 // A single scan in one call with steps enough, of a page whose check for this start is known.
 pub fn whole(
-    checked: Checked,
+    checked: Result<Line, Fault>,
     bytes: &[u8],
-    at: usize,
-    length: usize,
-    start: usize,
-    construct: u8,
-    kind: u8,
-    flags: u8,
+    request: Request,
     events: &mut [u32],
 ) -> Ran
-    requires { checked ≡ page_check bytes.now at length start }
-    ensures { left_by result events.new ≡ whole_of bytes.now at length start construct kind flags events.old }
+    requires { checked ≡ page_check bytes.now request.at request.length request.start }
+    ensures { left_by result events.new ≡ whole_of bytes.now request.at request.length request.start request.construct request.kind request.flags events.old }
 {
-    let began = begin_checked(checked, length, start, construct, kind, flags, events.len());
+    let began = begin_checked(checked, request, events.len());
     match began {
-        Began::Started(scan) => {
-            let end = at + length;
-            let allowance = step_bound(length, start);
-            scan.run(&bytes[at..end], events, allowance)
+        Ok(scan) => {
+            let end = request.at + request.length;
+            let allowance = step_bound(request.length, request.start);
+            scan.run(&bytes[request.at..end], events, allowance)
         }
-        Began::Refused(answer) => not_begun(answer),
+        Err(answer) => not_begun(answer),
     }
 }
 
@@ -248,26 +220,15 @@ impl Scan {
         }
     }
 
-    // A new scan of the page that begins at `at` of the lent bytes and is `length` long, from `start` on, with an event buffer of so
-    // many words. Construct, kind and flags are numbered in docs/NUMBERS.md.
-    pub fn new(
-        bytes: &[u8],
-        at: usize,
-        length: usize,
-        start: usize,
-        construct: u8,
-        kind: u8,
-        flags: u8,
-        words: usize,
-    ) -> Began
-        ensures { begun_by result ≡ begin_of bytes.now at length start construct kind flags words }
+    // A new scan, with an event buffer of so many words.
+    pub fn new(bytes: &[u8], request: Request, words: usize) -> Result<Self, Answer>
+        ensures { begun_by result ≡ begin_of bytes.now request.at request.length request.start request.construct request.kind request.flags words }
     {
-        if numbers_listed(construct, kind, flags) {
-            let job = job_of(length, start, construct, kind, flags, words);
-            let checked = page::check(bytes, at, length, start);
-            begin_if_good(checked, job)
+        if numbers_listed(request.construct, request.kind, request.flags) {
+            let checked = page::check(bytes, request.at, request.length, request.start);
+            begin_if_good(checked, job_of(request, words))
         } else {
-            Began::Refused(Answer::BadCall)
+            Err(Answer::BadCall)
         }
     }
 }

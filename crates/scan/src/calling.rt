@@ -9,6 +9,7 @@ use tokenizer::Tokenizer;
 use tokenizer::ranges::verdict_in_range;
 
 // The state that applies a verdict, by the construct.
+#[tactic(auto, using(base::proofs::Choice::picks))]
 pub fn verdict_state(construct: u8) -> u8
     ensures { result ≡ verdict_state construct }
 {
@@ -21,43 +22,30 @@ pub fn verdict_state(construct: u8) -> u8
 
 impl Scan {
     // Whether a call can have given this scan.
+    #[tactic(auto, unfolding(crate::specs::Call::scan_in_range))]
     pub fn in_range(self) -> bool
         ensures { result ≡ scan_in_range self }
     {
         let tokenizer = self.tokenizer;
         let job = tokenizer.job;
-        if tokenizer.in_range() {
-            if events::room_in(job.words) < self.used {
-                return false;
-            }
-            if step_bound(job.length, job.start) < self.steps {
-                return false;
-            }
-            let lines = self.lines;
-            return lines.in_range();
-        }
-        false
+        tokenizer.in_range()
+            && self.used <= events::room_in(job.words)
+            && self.steps <= step_bound(job.length, job.start)
+            && self.lines.in_range()
     }
 
     // Whether the scan goes on, over a page of n bytes and w lent words.
+    #[tactic(auto, unfolding(crate::specs::Call::runnable))]
     fn runnable(self, n: usize, w: usize, allowance: usize) -> bool
         ensures { result ≡ runnable self n w allowance }
     {
         let tokenizer = self.tokenizer;
         let job = tokenizer.job;
-        if allowance <= 0 {
-            return false;
-        }
-        if tokenizer.state < state::FIRST_RUNNING {
-            return false;
-        }
-        if n != job.length {
-            return false;
-        }
-        if w != job.words {
-            return false;
-        }
-        self.in_range()
+        0 < allowance
+            && state::FIRST_RUNNING <= tokenizer.state
+            && n == job.length
+            && w == job.words
+            && self.in_range()
     }
 
     // At most `allowance` steps over the page, whose events go to the lent words. A scan that has ended, or that asks and has not been
@@ -85,39 +73,23 @@ impl Scan {
     }
 
     // Whether the scan asks, and the verdict can be heard.
+    #[tactic(auto, unfolding(crate::specs::Call::givable))]
     fn givable(self, verdict: Verdict) -> bool
         ensures { result ≡ givable self verdict }
     {
-        if self.tokenizer.state == state::ASKING {
-            if verdict_in_range(verdict) {
-                return self.in_range();
-            }
-            return false;
-        }
-        false
+        self.tokenizer.state == state::ASKING && verdict_in_range(verdict) && self.in_range()
     }
 
     // The scan with a verdict kept.
     fn given(self, verdict: Verdict) -> Self
         ensures { result ≡ given_scan self verdict }
     {
-        let tokenizer = self.tokenizer;
-        let job = tokenizer.job;
-        let regs = tokenizer.regs;
         let tokenizer = Tokenizer {
-            job,
-            state: verdict_state(job.construct),
-            at: tokenizer.at,
-            regs,
+            state: verdict_state(self.tokenizer.job.construct),
             heard: verdict,
+            ..self.tokenizer
         };
-        let lines = self.lines;
-        Scan {
-            tokenizer,
-            lines,
-            used: self.used,
-            steps: self.steps,
-        }
+        Scan { tokenizer, ..self }
     }
 
     // The verdict that the scan asked for. It is kept; the next step applies it.

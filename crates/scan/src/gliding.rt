@@ -4,7 +4,7 @@ ghost use Rattle.std.specs.Prelude.{◌≡◌, true, ◌≤◌, ◌<◌, length}
 ghost use Rattle.base.specs.Page.{page_limit, byte_at};
 ghost use Rattle.scan.specs.Gliding.{plain_data, plain_line, plain_value, plain_space, inside_a_name, may_glide, Glides, GlidesTo, Glided, furthest_place, nests, depth_past};
 
-use base::{byte, state, wide};
+use base::{byte, state};
 use tokenizer::moving::{one_deeper, one_shallower};
 
 // Data that neither ends nor nests an expression, and is one column.
@@ -24,20 +24,14 @@ fn plain_data(b: u16) -> bool
 fn plain_line(b: u16) -> bool
     ensures { result ≡ plain_line b }
 {
-    if b == byte::TAB {
-        return false;
-    }
-    !mdx_esm::line_ends(b)
+    b != byte::TAB && !mdx_esm::line_ends(b)
 }
 
 // The same in a quoted value.
 fn plain_value(b: u16, quote: u16) -> bool
     ensures { result ≡ plain_value b quote }
 {
-    if b == byte::TAB {
-        return false;
-    }
-    !mdx_jsx_attribute::quoted_ends(b, quote)
+    b != byte::TAB && !mdx_jsx_attribute::quoted_ends(b, quote)
 }
 
 // White space inside a tag that is one column, and no line's end.
@@ -48,13 +42,11 @@ fn plain_space(b: u16) -> bool
 }
 
 // One of the five states inside a name.
+#[tactic(auto, unfolding(base::specs::Range::within))]
 fn inside_a_name(name: u8) -> bool
     ensures { result ≡ inside_a_name name }
 {
-    match name {
-        state::MDX_JSX_PRIMARY_NAME..=state::MDX_JSX_ATTRIBUTE_LOCAL_NAME => true,
-        _ => false,
-    }
+    state::MDX_JSX_PRIMARY_NAME <= name && name <= state::MDX_JSX_ATTRIBUTE_LOCAL_NAME
 }
 
 // Whether the state passes any byte by a short way: one test, which spares the other states the tests for each way.
@@ -125,17 +117,15 @@ pub(crate) fn depth_past(depth: u32, asks: bool, b: u16) -> u32
 
 // How far the state passes bytes so: from a place on, up to a limit.
 fn glide_end(page: &[u8], name: u8, quote: u16, from: usize, limit: usize) -> usize
-    requires { limit ≤ length page.now }
+    requires { (from ≤ limit) × (limit ≤ length page.now) }
     ensures { GlidesTo page.now name quote from limit result }
 {
-    let mut end = from;
-    while end < limit {
-        if !glides(name, quote, wide(page[end])) {
+    for end in from..limit {
+        if !glides(name, quote, u16::from(page[end])) {
             return end;
         }
-        end = end + 1;
     }
-    end
+    limit
 }
 
 // The furthest place that so many steps can reach.
@@ -143,11 +133,7 @@ fn furthest_place(length: usize, at: usize, left: usize) -> usize
     requires { at ≤ length }
     ensures { result ≡ furthest_place length at left }
 {
-    if left < length - at {
-        at + left
-    } else {
-        length
-    }
+    at + left.min(length - at)
 }
 
 // How many bytes the state passes so, from a place on whose byte is one, in so many steps.

@@ -24,6 +24,18 @@ pub struct Scan {
     pub steps: usize,
 }
 
+// What a new scan is asked to do: its page is the part of the lent bytes that begins at `at` and is `length` long, and it begins at `start`,
+// counted from the page's first byte. Construct, kind and flags are numbered in docs/NUMBERS.md.
+#[derive(Clone, Copy)]
+pub struct Request {
+    pub at: usize,
+    pub length: usize,
+    pub start: usize,
+    pub construct: u8,
+    pub kind: u8,
+    pub flags: u8,
+}
+
 // What a scan has made so far: events written, and steps.
 #[derive(Clone, Copy)]
 pub struct Tally {
@@ -95,11 +107,4 @@ pub enum Answer {
 pub struct Ran {
     pub scan: Scan,
     pub answer: Answer,
-}
-
-// A new scan, or why there is none.
-#[derive(Clone, Copy)]
-pub enum Began {
-    Started(Scan),
-    Refused(Answer),
 }

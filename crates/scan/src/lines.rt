@@ -6,7 +6,7 @@ ghost use Rattle.tokenizer.specs.Moved.{one_more};
 ghost use Rattle.scan.specs.Inner.{Low};
 ghost use Rattle.scan.specs.Lines.{highest, column_past, line_past, column_in, spot_in, point_in, tab_next, lines_of, within_end, lines_after, line_in_range, lines_in_range};
 
-use base::{Effect, InTab, byte, columns};
+use base::{Effect, InTab, byte};
 use events::Point;
 use page::line::{Line, Spot, column_behind, line_at};
 
@@ -30,6 +30,7 @@ pub const HIGHEST: usize = 1_048_578;
 pub const HIGHEST_COLUMN: usize = 4_194_313;
 
 // One more, up to that.
+#[tactic(auto, using(base::proofs::Choice::picks))]
 fn counted(n: usize) -> usize
     ensures { result ≡ one_more n highest }
 {
@@ -37,6 +38,7 @@ fn counted(n: usize) -> usize
 }
 
 // The column past a byte that is no line feed, up to the highest.
+#[tactic(auto, using(base::proofs::Choice::picks))]
 fn column_past(column: usize, b: u16) -> usize
     ensures { result ≡ column_past column b }
 {
@@ -63,6 +65,7 @@ pub(crate) fn line_past(line: Line, b: u16) -> Line
 }
 
 // The line of the byte that comes next, if the byte b is passed or not.
+#[tactic(auto, using(base::proofs::Choice::picks))]
 pub(crate) fn line_next(line: Line, passes: bool, b: u16) -> Line
     ensures { result ≡ (when passes then line_past line b else line) }
 {
@@ -73,6 +76,7 @@ pub(crate) fn line_next(line: Line, passes: bool, b: u16) -> Line
 }
 
 // How far the next step stands inside a tab: a byte that is eaten is passed whole.
+#[tactic(auto, using(base::proofs::Choice::picks))]
 pub(crate) fn tab_next(tab: InTab, eat: bool) -> InTab
     ensures { result ≡ tab_next eat tab }
 {
@@ -87,7 +91,7 @@ fn column(line: Line, tab: InTab) -> usize
     ensures { (result ≡ column_in line tab) × (result ≤ line.column + 3) }
 {
     if line.column < HIGHEST_COLUMN {
-        return line.column + columns(tab);
+        return line.column + usize::from(tab.columns());
     }
     line.column
 }
@@ -139,30 +143,20 @@ fn within_end(page: &[u8], place: usize) -> usize
 }
 
 // Whether a call can have given the line of a place.
+#[tactic(auto, unfolding(crate::specs::Lines::line_in_range))]
 fn line_in_range(line: Line) -> bool
     ensures { result ≡ line_in_range line }
 {
-    if HIGHEST < line.number {
-        return false;
-    }
-    line.column <= HIGHEST_COLUMN
+    line.number <= HIGHEST && line.column <= HIGHEST_COLUMN
 }
 
 impl Lines {
     // Whether a call can have given them.
+    #[tactic(auto, unfolding(crate::specs::Lines::lines_in_range))]
     pub(crate) fn in_range(self) -> bool
         ensures { result ≡ lines_in_range self }
     {
-        let line = self.line;
-        let kept = self.kept;
-        let fault = self.fault;
-        if line_in_range(line) {
-            if line_in_range(kept) {
-                return line_in_range(fault);
-            }
-            return false;
-        }
-        false
+        line_in_range(self.line) && line_in_range(self.kept) && line_in_range(self.fault)
     }
 
     // The lines after a step, when `next` and `tab` are those of the byte that comes next.
@@ -173,6 +167,7 @@ impl Lines {
         let line = self.line;
         let kept = self.kept;
         let fault = self.fault;
+        // Each effect has an arm of its own: with one `_` for the many alike a step takes up to a tenth more instructions.
         match effect {
             Effect::Keep => lines_of(next, tab, kept, fault),
             Effect::Deeper => lines_of(next, tab, kept, fault),

@@ -71,24 +71,15 @@ impl Scan {
         requires { Counts self 0 × (self.tokenizer.at + k < 2 ^ 64) }
         ensures { result ≡ passed_scan self k }
     {
-        let tokenizer = self.tokenizer;
-        let lines = passed_lines(self.lines, k);
-        let job = tokenizer.job;
-        let regs = tokenizer.regs;
-        let heard = tokenizer.heard;
-        let steps = count_steps(self.steps, step_bound(job.length, job.start), k);
-        let tokenizer = Tokenizer {
-            job,
-            state: tokenizer.state,
-            at: tokenizer.at + k,
-            regs,
-            heard,
-        };
+        let job = self.tokenizer.job;
         Scan {
-            tokenizer,
-            lines,
-            used: self.used,
-            steps,
+            tokenizer: Tokenizer {
+                at: self.tokenizer.at + k,
+                ..self.tokenizer
+            },
+            lines: passed_lines(self.lines, k),
+            steps: count_steps(self.steps, step_bound(job.length, job.start), k),
+            ..self
         }
     }
 
@@ -97,36 +88,17 @@ impl Scan {
         requires { Counts self 0 × (self.tokenizer.at + 1 < 2 ^ 64) }
         ensures { result ≡ nested_scan self b }
     {
+        let mut next = self.passed(1);
         let tokenizer = self.tokenizer;
-        let lines = passed_lines(self.lines, 1);
-        let job = tokenizer.job;
-        let mut regs = tokenizer.regs;
-        regs.depth = depth_past(regs.depth, job.asks, b);
-        let heard = tokenizer.heard;
-        let steps = count_steps(self.steps, step_bound(job.length, job.start), 1);
-        let tokenizer = Tokenizer {
-            job,
-            state: tokenizer.state,
-            at: tokenizer.at + 1,
-            regs,
-            heard,
-        };
-        Scan {
-            tokenizer,
-            lines,
-            used: self.used,
-            steps,
-        }
+        next.tokenizer.regs.depth = depth_past(tokenizer.regs.depth, tokenizer.job.asks, b);
+        next
     }
 
     // Whether a decision eats a byte, and there is one.
     fn passes(self, m: Move) -> bool
         ensures { result ≡ passes self m }
     {
-        if m.eat {
-            return self.tokenizer.at < self.tokenizer.job.length;
-        }
-        false
+        m.eat && self.tokenizer.at < self.tokenizer.job.length
     }
 
     // The lines after a decision at the byte b.
@@ -198,6 +170,7 @@ impl Scan {
     {
         let mut s = self;
         let mut left = allowance;
+        // No `for`: a turn takes one step, or as many as it glides over.
         while 0 < left {
             let name = s.tokenizer.state;
             if name < state::FIRST_RUNNING {

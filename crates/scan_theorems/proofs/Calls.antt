@@ -11,6 +11,7 @@ use lib.Dec.{leb, ltb, eqb}
 use borrow.Author.Tests.{leb-true, le-leb, ltb-true, ltb-false, eqb-true}
 use Rattle.base.specs.If.{when◌then◌else◌}
 use Rattle.base.proofs.Choice.{if_is, case, both, and_yes}
+use Rattle.std.specs.Prelude.{Result, Ok, Err}
 use Rattle.base.specs.Page.{page_limit, byte_at}
 use Rattle.base.specs.Range.{within}
 use Rattle.base.specs.State.{full, asking, rests}
@@ -24,8 +25,9 @@ use Rattle.tokenizer.specs.Moved.{one_more, moved}
 use Rattle.tokenizer.specs.Ranges.{esm, construct_listed, kind_listed, job_in_range, runs_in, is_answer, listed, is_return, numbers_in_range, places_in_range, regs_in_range, verdict_in_range, in_range}
 use Rattle.base.specs.Number as number
 use Rattle.page.specs.declared.line.Spot.{Spot}
-use Rattle.page.specs.declared.Checked.{Checked}
-use Rattle.page.specs.declared.Checked.TheVariants as checked
+use Rattle.page.specs.declared.Fault.{Fault}
+use Rattle.page.specs.declared.Fault.TheVariants as fault
+use Rattle.page.specs.declared.line.Line.{Line}
 use Rattle.page.specs.Page.{page_of, page_check, Admitted}
 use Rattle.scan.specs.declared.Scan.{Scan}
 use Rattle.scan.specs.Answer.{Said, said, placed, refused}
@@ -171,11 +173,11 @@ not_begun P bytes at n start construct kind flags words bad long far text a e =
     told : (x : Said) → not_started x ≡ not_started a → P x → P a
     told x f g = let h : x ≡ a = cc in rw h at g
 
-    by : (x : Checked) → begun_if x (job_of construct kind flags n start words) ≡ not_started a → P a
-    by (checked.Good line) f = let z : ◌≡◌ {A = ℕ} 0 1 = cc in absurd (omega (arith, z))
-    by checked.TooLong f = told _ f long
-    by checked.BadStart f = told _ f far
-    by (checked.BadText p) f = told _ f (text p)
+    by : (x : Result Line Fault) → begun_if x (job_of construct kind flags n start words) ≡ not_started a → P a
+    by (Ok line) f = let z : ◌≡◌ {A = ℕ} 0 1 = cc in absurd (omega (arith, z))
+    by (Err fault.TooLong) f = told _ f long
+    by (Err fault.BadStart) f = told _ f far
+    by (Err (fault.BadText p)) f = told _ f (text p)
 
 pub new_gives_in_range : (bytes : List ℕ) (at n start construct kind flags words : ℕ) (s : Scan) → begin_of bytes at n start construct kind flags words ≡ started s → scan_in_range s ≡ true
 new_gives_in_range bytes at n start construct kind flags words s e =

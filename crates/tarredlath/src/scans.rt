@@ -2,20 +2,20 @@
 ghost use Rattle.std.specs.Prelude.{◌≡◌};
 ghost use Rattle.tarredlath.specs.Face.{ran, read, enough_face, once_face, new_face, run_face, give_face, answer_face, body_face};
 
-use crossing::answers::{answer_numbers, bare, body_numbers, enough_numbers};
-use crossing::scans::{ran_out, ran_refused, scan_in, scan_listed, verdict_in, verdict_listed};
+use crossing::answers::{bare, body_numbers};
+use crossing::scans::{ran_refused, try_verdict};
 use crossing::{AnswerNumbers, BodyNumbers, EnoughNumbers, RanNumbers, ScanNumbers};
+use mdx_collect::collect;
 use mdx_collect::kind::kind_of;
-use mdx_collect::{Body, collect};
 use room::words_enough;
 use scan::beginning::{no_scan, single};
-use scan::{Began, Ran, Scan};
+use scan::{Ran, Request, Scan};
 
 // The words of an event buffer that no scan of a page of so many bytes fills.
 pub fn tarredlath_words_enough(length: usize) -> EnoughNumbers
     ensures { result ≡ enough_face length }
 {
-    enough_numbers(words_enough(length))
+    EnoughNumbers::from(words_enough(length))
 }
 
 // A single scan in one call.
@@ -32,9 +32,15 @@ pub fn tarredlath_scan_once(
 ) -> RanNumbers
     ensures { ran result events.new ≡ once_face bytes.now at length start construct kind flags allowance events.old }
 {
-    ran_out(single(
-        bytes, at, length, start, construct, kind, flags, allowance, events,
-    ))
+    let request = Request {
+        at,
+        length,
+        start,
+        construct,
+        kind,
+        flags,
+    };
+    RanNumbers::from(single(bytes, request, allowance, events))
 }
 
 // A new scan, which is paused at its start.
@@ -50,20 +56,28 @@ pub fn tarredlath_scan_new(
 ) -> RanNumbers
     ensures { result ≡ new_face bytes.now at length start construct kind flags words }
 {
-    let began = Scan::new(bytes, at, length, start, construct, kind, flags, words);
-    match began {
-        Began::Started(scan) => {
-            let answer = scan.answer();
-            ran_out(Ran { scan, answer })
-        }
-        Began::Refused(answer) => {
-            let scan = no_scan();
-            ran_out(Ran { scan, answer })
-        }
+    let request = Request {
+        at,
+        length,
+        start,
+        construct,
+        kind,
+        flags,
+    };
+    match Scan::new(bytes, request, words) {
+        Ok(scan) => RanNumbers::from(Ran {
+            scan,
+            answer: scan.answer(),
+        }),
+        Err(answer) => RanNumbers::from(Ran {
+            scan: no_scan(),
+            answer,
+        }),
     }
 }
 
 // At most `allowance` steps of a scan.
+#[tactic(auto, using(base::proofs::Choice::if_yes, base::proofs::Choice::if_no, crossing::proofs::Listed::listed_is, crossing::proofs::Listed::unlisted_is), unfolding(crate::specs::Face::run_face))]
 pub fn tarredlath_scan_run(
     scan: ScanNumbers,
     page: &[u8],
@@ -72,14 +86,14 @@ pub fn tarredlath_scan_run(
 ) -> RanNumbers
     ensures { ran result events.new ≡ run_face page.now allowance scan events.old }
 {
-    if scan_listed(scan) {
-        let inner = scan_in(scan);
-        return ran_out(inner.run(page, events, allowance));
-    }
-    ran_refused(scan)
+    let Ok(inner) = Scan::try_from(scan) else {
+        return ran_refused(scan);
+    };
+    RanNumbers::from(inner.run(page, events, allowance))
 }
 
 // The verdict that a scan asked for.
+#[tactic(auto, using(base::proofs::Choice::if_yes, base::proofs::Choice::if_no, crossing::proofs::Listed::listed_is, crossing::proofs::Listed::unlisted_is), unfolding(crate::specs::Face::give_face))]
 pub fn tarredlath_scan_give(
     scan: ScanNumbers,
     verdict: u8,
@@ -88,36 +102,33 @@ pub fn tarredlath_scan_give(
 ) -> RanNumbers
     ensures { result ≡ give_face scan verdict number offset }
 {
-    if !verdict_listed(verdict) {
+    let Ok(verdict) = try_verdict(verdict, number, offset) else {
         return ran_refused(scan);
-    }
-    if scan_listed(scan) {
-        let inner = scan_in(scan);
-        let verdict = verdict_in(verdict, number, offset);
-        return ran_out(inner.give(verdict));
-    }
-    ran_refused(scan)
+    };
+    let Ok(inner) = Scan::try_from(scan) else {
+        return ran_refused(scan);
+    };
+    RanNumbers::from(inner.give(verdict))
 }
 
 // The answer of a scan as it stands.
+#[tactic(auto, using(crossing::proofs::Bodies::nothing_carried, base::proofs::Choice::if_yes, base::proofs::Choice::if_no, crossing::proofs::Listed::listed_is, crossing::proofs::Listed::unlisted_is), unfolding(crate::specs::Face::answer_face))]
 pub fn tarredlath_scan_answer(scan: ScanNumbers) -> AnswerNumbers
     ensures { result ≡ answer_face scan }
 {
-    if scan_listed(scan) {
-        let inner = scan_in(scan);
-        return answer_numbers(inner.answer());
-    }
-    bare(12)
+    let Ok(inner) = Scan::try_from(scan) else {
+        return bare(12);
+    };
+    AnswerNumbers::from(inner.answer())
 }
 
 // Where the body is that a scan asks about, and its kind.
+#[tactic(auto, using(base::proofs::Choice::if_yes, base::proofs::Choice::if_no, crossing::proofs::Listed::listed_is, crossing::proofs::Listed::unlisted_is), unfolding(crate::specs::Face::body_face))]
 pub fn tarredlath_scan_body(scan: ScanNumbers, page: &[u8], scratch: &mut [u8]) -> BodyNumbers
     ensures { read result scratch.new ≡ body_face page.now scan scratch.old }
 {
-    if scan_listed(scan) {
-        let inner = scan_in(scan);
-        let body = collect(inner, page, scratch);
-        return body_numbers(body, kind_of(inner));
-    }
-    body_numbers(Body::BadCall, 0)
+    let Ok(inner) = Scan::try_from(scan) else {
+        return body_numbers(None, 0);
+    };
+    body_numbers(collect(inner, page, scratch), kind_of(inner))
 }

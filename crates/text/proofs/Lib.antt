@@ -1,8 +1,3 @@
-pub mod Lines
-pub mod Same
-pub mod Digits
+pub mod Choices
 pub mod Pairs
-pub mod Decoding
-pub mod Taking
-pub mod Moving
-pub mod Filling
+pub mod Same

@@ -1,77 +1,31 @@
 -- Pairs of hex digits from a place on.
-use Prim.Native.Nat.{ℕ, ◌+◌, ◌-◌, ◌*◌, ◌≤◌, ◌<◌}
+use Prim.Native.Nat.{ℕ, zero, suc, ◌+◌, ◌*◌, ◌/◌, ◌≤◌, ◌<◌}
 use native.Mathlib.Omega.{arith}
-use mathlib.Core.Path.{◌≡◌, sym, ◌∙◌, ap}
-use mathlib.Core.Bool.{true, false, ◌&&◌}
+use mathlib.Core.Path.{◌≡◌, refl}
 use mathlib.Core.List.{List, [], ◌∷◌}
-use borrow.Author.Tests.{leb-true, ltb-true, ltb-false}
-use lib.Dec.{leb, ltb}
-use lib.ListN.{length, get_or, drop, drop_of_length-le}
-use Rattle.base.specs.Byte.{digit0, digit9, small_a}
-use Rattle.base.specs.If.{when◌then◌else◌}
-use Rattle.base.proofs.Choice.{if_is, case, both}
-use Rattle.base.specs.Range.{within}
-use Rattle.text.specs.Hex.{small_f, hex_value, is_hex, pairs, bytes_of}
-use Rattle.text.proofs.Lines.{from_place}
+use lib.ListN.{length, get_or, drop, length-drop}
+use Rattle.std.specs.Simd.{first_chunks}
+use Rattle.text.specs.Hex.{digit, bytes_of}
 
-within_high : (low high x : ℕ) → within low high x ≡ true → x ≤ high
-unfolding within
-within_high low high x e = leb-true x high (both (leb low x) (leb x high) e).1
+-- the bytes that the digits say from pair i on: the one that this pair says, and those from the next pair on
+pub bytes_at : (s : List ℕ) (n i : ℕ) → i < n → 2 * n ≤ length s →
+    bytes_of (drop (2 * i) s) ≡ (digit (get_or (get_or (first_chunks 2 n s) i []) 0 0) * 16 + digit (get_or (get_or (first_chunks 2 n s) i []) 1 0)) ∷ bytes_of (drop (2 * (i + 1)) s)
+unfolding bytes_of
+bytes_at [] n i h k = absurd (omega arith)
+bytes_at (a ∷ []) n i h k = absurd (omega arith)
+bytes_at (a ∷ b ∷ t) zero i h k = absurd (omega arith)
+bytes_at (a ∷ b ∷ t) (suc n) zero h k = refl
+bytes_at (a ∷ b ∷ t) (suc n) (suc i) h k =
+    let e : 2 * suc i ≡ suc (suc (2 * i)) = omega arith in
+    let f : 2 * (suc i + 1) ≡ suc (suc (2 * (i + 1))) = omega arith in
+    rw (e, f) (bytes_at t n i (omega arith) (omega arith))
 
-pub at_most_16 : (b : ℕ) → hex_value b ≤ 16
-unfolding hex_value
-at_most_16 b =
-    if_is ℕ (λ (v : ℕ). v ≤ 16) (within digit0 digit9 b) (b - digit0) (when within small_a small_f b then b - small_a + 10 else 16)
-    (λ e. let h = within_high digit0 digit9 b e in omega arith)
-    (λ e.
-    if_is ℕ (λ (v : ℕ). v ≤ 16) (within small_a small_f b) (b - small_a + 10) 16
-    (λ f. let h = within_high small_a small_f b f in omega arith) (λ f. omega arith))
+short : (s : List ℕ) → length s < 2 → bytes_of s ≡ []
+unfolding bytes_of
+short [] h = refl
+short (a ∷ []) h = refl
+short (a ∷ b ∷ t) h = absurd (omega arith)
 
-two_from : (s : List ℕ) (p : ℕ) → p + 1 < length s → drop p s ≡ get_or s p 0 ∷ get_or s (p + 1) 0 ∷ drop (p + 2) s
-two_from s p h =
-    let here : p < length s = omega arith in
-    let q : p + 1 + 1 ≡ p + 2 = omega arith in
-    from_place s p here
-    ∙ ap (λ (t : List ℕ). get_or s p 0 ∷ t) (from_place s (p + 1) h ∙ ap (λ (n : ℕ). get_or s (p + 1) 0 ∷ drop n s) q)
-
-module _ (s : List ℕ) (p : ℕ) where
-  pub pairs_at : p + 1 < length s → pairs (drop p s) ≡ (is_hex (get_or s p 0) && (is_hex (get_or s (p + 1) 0) && pairs (drop (p + 2) s)))
-  unfolding pairs
-  pairs_at h = ap pairs (two_from s p h)
-
-  pub pairs_one : p + 1 ≡ length s → pairs (drop p s) ≡ false
-  unfolding pairs
-  pairs_one h =
-      let here : p < length s = omega arith in
-      let none : length s ≤ p + 1 = omega arith in
-      ap pairs (from_place s p here ∙ ap (λ (t : List ℕ). get_or s p 0 ∷ t) (drop_of_length-le s none))
-
-  pub pairs_end : length s ≤ p → pairs (drop p s) ≡ true
-  unfolding pairs
-  pairs_end h = ap pairs (drop_of_length-le s h)
-
-  pub bytes_at : p + 1 < length s → bytes_of (drop p s) ≡ (hex_value (get_or s p 0) * 16 + hex_value (get_or s (p + 1) 0)) ∷ bytes_of (drop (p + 2) s)
-  unfolding bytes_of
-  bytes_at h = ap bytes_of (two_from s p h)
-
-  pub bytes_end : length s ≤ p → bytes_of (drop p s) ≡ []
-  unfolding bytes_of
-  bytes_end h = ap bytes_of (drop_of_length-le s h)
-
-  -- what pairs begin with, where any are left
-  pub first_pair : p < length s → pairs (drop p s) ≡ true →
-      (p + 1 < length s) × (hex_value (get_or s p 0) < 16) × (hex_value (get_or s (p + 1) 0) < 16) × (pairs (drop (p + 2) s) ≡ true)
-  first_pair h e =
-      case ((p + 1 < length s) × (hex_value (get_or s p 0) < 16) × (hex_value (get_or s (p + 1) 0) < 16) × (pairs (drop (p + 2) s) ≡ true))
-      (ltb (p + 1) (length s))
-      (λ y.
-      let two = ltb-true (p + 1) (length s) y in
-      let q = both (is_hex (get_or s p 0)) (is_hex (get_or s (p + 1) 0) && pairs (drop (p + 2) s)) (sym (pairs_at two) ∙ e) in
-      let r = both (is_hex (get_or s (p + 1) 0)) (pairs (drop (p + 2) s)) q.1 in
-      (two, ltb-true (hex_value (get_or s p 0)) 16 q.0, ltb-true (hex_value (get_or s (p + 1) 0)) 16 r.0, r.1))
-      (λ n.
-      let past = ltb-false (p + 1) (length s) n in
-      let one : p + 1 ≡ length s = omega arith in
-      let f = pairs_one one in
-      let z : ◌≡◌ {A = ℕ} 0 1 = cc in
-      absurd (omega arith))
+-- no pair is left
+pub bytes_end : (s : List ℕ) (i : ℕ) → length s / 2 ≤ i → bytes_of (drop (2 * i) s) ≡ []
+bytes_end s i h = short (drop (2 * i) s) (omega (arith, length-drop (2 * i) s))

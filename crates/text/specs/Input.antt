@@ -1,5 +1,5 @@
 -- The next line of what is read of an input and not used up: the bytes of a buffer from one place up to another.
-use Rattle.std.specs.Prelude.{ℕ, ◌+◌, ◌-◌, ◌≤◌, ◌≡◌, Bool, true, false, List, ◌++◌, eqb, ltb, length, take, drop}
+use Rattle.std.specs.Prelude.{ℕ, ◌+◌, ◌-◌, ◌≤◌, ◌≡◌, Bool, true, false, List, min, eqb, ltb, length, take}
 use Rattle.base.specs.Byte.{line_feed}
 use Rattle.base.specs.If.{when◌then◌else◌}
 use Rattle.text.specs.declared.input.Input.{Input}
@@ -9,8 +9,8 @@ use Rattle.text.specs.declared.input.Taken.{Taken}
 use Rattle.text.specs.Find.{find_from}
 use Rattle.text.specs.Part.{part}
 
-unfoldable pub least_of : ℕ → ℕ → ℕ
-least_of a b = when ltb a b then a else b
+abbrev pub least_of : ℕ → ℕ → ℕ
+least_of a b = min a b
 
 -- the turns that are left after one more
 unfoldable pub turns_left : ℕ → Bool → ℕ
@@ -62,16 +62,16 @@ at_in room i = least_of i.at (end_in room i)
 abbrev pub taken_of : List ℕ → Input → Taken
 taken_of buffer i = taken_at buffer (at_in (length buffer) i) (end_in (length buffer) i) i.skips i.ended
 
--- the buffer with `count` bytes from a place on at its front; from `count` on it is as it was
-unfoldable pub moved_down : List ℕ → ℕ → ℕ → List ℕ
-moved_down buffer from count = take count (drop from buffer) ++ drop count buffer
-
 -- the bytes that have been read and not been used
 abbrev pub unused_in : List ℕ → Input → List ℕ
 unused_in buffer i = part buffer (at_in (length buffer) i) (end_in (length buffer) i)
 
 abbrev pub unused_count : ℕ → Input → ℕ
 unused_count room i = end_in room i - at_in room i
+
+-- the input to go on with after a read that failed: it has ended behind the unused bytes, which stand at the buffer's front
+abbrev pub ended_input : ℕ → Input → Input
+ended_input room i = record { at = 0; end = unused_count room i; skips = i.skips; ended = true }
 
 -- a buffer was filled: the unused bytes stand at its front, all of them and as they were; what is read comes behind them, and the input
 -- has ended if that is nothing. Which bytes are read is not said

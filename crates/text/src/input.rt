@@ -2,13 +2,14 @@
 //
 // The bytes of the buffer from one place up to another have been read and not been used. take_line uses up a line of them, and
 // says where there is none yet; fill reads more.
-ghost use Rattle.std.specs.Prelude.{◌≡◌, false, ◌+◌, ◌-◌, ◌≤◌, ◌<◌, length};
-ghost use Rattle.text.specs.Input.{least_of, turns_left, front_input, cut_of, line_of, last_of, rest_of, taken_of, moved_down, Filled};
+ghost use Rattle.std.specs.Prelude.{◌≡◌, false, ◌+◌, ◌-◌, ◌≤◌, ◌<◌, length, MatchResult};
+ghost use Rattle.text.specs.Input.{least_of, turns_left, front_input, line_of, last_of, rest_of, taken_of, ended_input, Filled};
 
 use crate::places::find;
-use std::io::Read;
+use std::io::{self, Read};
 
-// The unused bytes are those from `at` up to `end`. A line that was too long is being skipped; the input has ended.
+// The unused bytes are those from `at` up to `end`. A line that was too long is being skipped; the input has ended. Either may
+// hold without the other, so two bools are as plain as an enum of all four.
 #[derive(Clone, Copy)]
 pub struct Input {
     pub at: usize,
@@ -31,14 +32,6 @@ pub enum Line {
     Ended,
 }
 
-// What a read has come to: the input to go on with, and whether the read failed. A read that fails gives nothing, so that the input
-// has ended there; whoever reads on says so.
-#[derive(Clone, Copy)]
-pub struct Refill {
-    pub input: Input,
-    pub failed: bool,
-}
-
 // What was taken, where it stands in the buffer, and the input to go on with.
 #[derive(Clone, Copy)]
 pub struct Taken {
@@ -57,99 +50,105 @@ impl Input {
     }
 }
 
+// The library's `min`, under the name that docs/PROMISES.md has.
 pub fn least(a: usize, b: usize) -> usize
     ensures value { result ≡ least_of a b }
     ensures upper_bound { (result ≤ a) × (result ≤ b) }
 {
-    if a < b { a } else { b }
+    a.min(b)
 }
 
 // How many turns are left after one more. A proved loop ends, and nothing says that an input does: so a program that reads on counts
 // its turns down, from more than any input takes.
+#[tactic(auto, using(crate::proofs::Choices::choices), unfolding(crate::specs::Input::turns_left))]
 pub fn turns_left(left: u64, going: bool) -> u64
     ensures value { result ≡ turns_left left going }
     ensures upper_bound { 0 < left → result < left }
 {
-    if left == 0 {
-        return 0;
-    }
-    if going { left - 1 } else { 0 }
+    if going { left.saturating_sub(1) } else { 0 }
 }
 
 // The next line of the buffer. The first clause says what a caller needs that cuts it out.
+#[tactic(auto, using(crate::proofs::Choices::choices))]
 pub fn take_line(buffer: &[u8], input: Input) -> Taken
     ensures from_le_to { (result.from ≤ result.to) × (result.to ≤ length buffer.now) }
     ensures value { result ≡ taken_of buffer.now input }
 {
-    let end = least(input.end, buffer.len());
-    let at = least(input.at, end);
-    let mark = find(&buffer[0..end], at, b'\n');
+    let end = input.end.min(buffer.len());
+    let at = input.at.min(end);
+    let mark = find(&buffer[..end], at, b'\n');
+    let unused = Input { at, end, ..input };
     if mark < end {
-        return line_at(at, mark, end, input.skips, input.ended);
+        line_at(unused, mark)
+    } else {
+        rest_at(unused, buffer.len())
     }
-    rest_at(at, end, buffer.len(), input.skips, input.ended)
 }
 
 // A line that ends in a line feed.
-fn line_at(at: usize, mark: usize, end: usize, skips: bool, ended: bool) -> Taken
-    requires { mark + 1 ≤ end }
-    ensures value { result ≡ line_of at mark end skips ended }
-    ensures from_value { (result.from ≡ at) × (result.to ≡ mark) }
+#[tactic(auto, using(crate::proofs::Choices::choices), unfolding(crate::specs::Input::line_of))]
+fn line_at(unused: Input, mark: usize) -> Taken
+    requires { mark + 1 ≤ unused.end }
+    ensures value { result ≡ line_of unused.at mark unused.end unused.skips unused.ended }
+    ensures from_value { (result.from ≡ unused.at) × (result.to ≡ mark) }
 {
-    let input = Input {
-        at: mark + 1,
-        end,
-        skips: false,
-        ended,
-    };
-    if skips {
-        return cut(Line::Skipped, at, mark, input);
+    Taken {
+        line: if unused.skips {
+            Line::Skipped
+        } else {
+            Line::Whole
+        },
+        from: unused.at,
+        to: mark,
+        input: Input {
+            at: mark + 1,
+            skips: false,
+            ..unused
+        },
     }
-    cut(Line::Whole, at, mark, input)
 }
 
 // No line feed stands in the unused bytes: they are the last line, too long a line, or a part of one.
-fn rest_at(at: usize, end: usize, room: usize, skips: bool, ended: bool) -> Taken
-    requires { at ≤ end }
-    ensures value { result ≡ rest_of at end room skips ended }
-    ensures from_value { (result.from ≡ at) × (result.to ≡ end) }
+#[tactic(auto, using(crate::proofs::Choices::choices), unfolding(crate::specs::Input::rest_of))]
+fn rest_at(unused: Input, room: usize) -> Taken
+    requires { unused.at ≤ unused.end }
+    ensures value { result ≡ rest_of unused.at unused.end room unused.skips unused.ended }
+    ensures from_value { (result.from ≡ unused.at) × (result.to ≡ unused.end) }
 {
-    if ended {
-        return last_at(at, end, skips);
+    if unused.ended {
+        return last_at(unused);
     }
-    if skips {
-        return cut(Line::More, at, end, at_front(true));
+    let too_long = !unused.skips && unused.end - unused.at == room;
+    Taken {
+        line: if too_long { Line::TooLong } else { Line::More },
+        from: unused.at,
+        to: unused.end,
+        input: if too_long || unused.skips {
+            at_front(true)
+        } else {
+            unused
+        },
     }
-    if end - at == room {
-        return cut(Line::TooLong, at, end, at_front(true));
-    }
-    let input = Input {
-        at,
-        end,
-        skips,
-        ended,
-    };
-    cut(Line::More, at, end, input)
 }
 
 // The input has ended, and what is left of it is a line, unless it is none or belongs to one that was too long.
-fn last_at(at: usize, end: usize, skips: bool) -> Taken
-    ensures value { result ≡ last_of at end skips }
-    ensures from_value { (result.from ≡ at) × (result.to ≡ end) }
+#[tactic(auto, using(crate::proofs::Choices::choices), unfolding(crate::specs::Input::last_of))]
+fn last_at(unused: Input) -> Taken
+    ensures value { result ≡ last_of unused.at unused.end unused.skips }
+    ensures from_value { (result.from ≡ unused.at) × (result.to ≡ unused.end) }
 {
-    let input = Input {
-        at: end,
-        end,
-        skips: false,
-        ended: true,
-    };
-    if skips {
-        return cut(Line::Ended, at, end, input);
+    let none = unused.skips || unused.at == unused.end;
+    Taken {
+        line: if none { Line::Ended } else { Line::Whole },
+        from: unused.at,
+        to: unused.end,
+        input: Input {
+            at: unused.end,
+            skips: false,
+            ended: true,
+            ..unused
+        },
     }
-    if at == end {
-        return cut(Line::Ended, at, end, input);
-    }
-    cut(Line::Whole, at, end, input)
 }
 
 // No bytes are left over.
@@ -164,55 +163,24 @@ fn at_front(skips: bool) -> Input
     }
 }
 
-fn cut(line: Line, from: usize, to: usize, input: Input) -> Taken
-    ensures { result ≡ cut_of line from to input }
-{
-    Taken {
-        line,
-        from,
-        to,
-        input,
-    }
-}
-
 // One read gives at most so many bytes: so a file is read in parts as a pipe is, and what is said of parts is tried by every test.
 const READ_ROOM: usize = 16_384;
 
-// The unused bytes are moved to the front, and what one read gives is put behind them. A read that gives nothing, or fails,
-// is the input's end.
-pub fn fill(source: &mut impl Read, buffer: &mut [u8], input: Input) -> Refill
-    ensures { Filled buffer.old input result.input buffer.new }
+// The unused bytes are moved to the front, and what one read gives is put behind them: the input to go on with. A read that gives
+// nothing is the input's end. So is one that fails, and nothing is put behind the unused bytes then.
+pub fn fill(source: &mut impl Read, buffer: &mut [u8], input: Input) -> io::Result<Input>
+    ensures { MatchResult result (λ next. Filled buffer.old input next buffer.new) (λ e. Filled buffer.old input (ended_input (length buffer.old) input) buffer.new) }
 {
-    let end = least(input.end, buffer.len());
-    let at = least(input.at, end);
+    let end = input.end.min(buffer.len());
+    let at = input.at.min(end);
     let rest = end - at;
-    move_down(buffer, at, rest);
-    let stop = rest + least(buffer.len() - rest, READ_ROOM);
-    let got = source.read(&mut buffer[rest..stop]);
-    let failed = got.is_err();
-    let count = got.unwrap_or(0);
-    Refill {
-        input: Input {
-            at: 0,
-            end: rest + count,
-            skips: input.skips,
-            ended: count == 0,
-        },
-        failed,
-    }
-}
-
-// So many bytes from a place on, to the front.
-fn move_down(buffer: &mut [u8], from: usize, count: usize)
-    requires { from + count ≤ length buffer.old }
-    ensures { buffer.new ≡ moved_down buffer.old from count }
-{
-    if from == 0 {
-        return;
-    }
-    let mut i = 0;
-    while i < count {
-        buffer[i] = buffer[from + i];
-        i += 1;
-    }
+    buffer.copy_within(at..end, 0);
+    let stop = buffer.len().min(rest + READ_ROOM);
+    let count = source.read(&mut buffer[rest..stop])?;
+    Ok(Input {
+        at: 0,
+        end: rest + count,
+        ended: count == 0,
+        ..input
+    })
 }

@@ -1,6 +1,6 @@
 // The four letters that say what is asked of a scan: construct, kind, mode and interrupt, each with a space after it.
 ghost use Rattle.std.specs.Prelude.{◌≡◌};
-ghost use Rattle.text.specs.Letters.{letter_at, construct_of, choice_of, flags_of, checked_of, letters_of};
+ghost use Rattle.text.specs.Letters.{spaced_of, construct_of, choice_of, flags_of, letters_of};
 
 // The numbers of docs/NUMBERS.md.
 #[derive(Clone, Copy)]
@@ -10,102 +10,69 @@ pub struct Letters {
     pub flags: u8,
 }
 
-#[derive(Clone, Copy)]
-pub enum ReadLetters {
-    Asked(Letters),
-    NoLetters,
-}
-
-// What a letter that is none of those listed stands for.
-const NONE: u8 = 255;
-
-// The bytes that the letters take, with their spaces.
-const LETTERS_LENGTH: usize = 8;
-
 // The letters from a place on: `e`, `t` or `s`, `f` or `t`, `c` or `v`, `0` or `1`.
-pub fn read_letters(line: &[u8], from: usize) -> ReadLetters
+#[tactic(auto, using(crate::proofs::Choices::choices), unfolding(crate::specs::Letters::spaced_of, crate::specs::Letters::asked_of))]
+pub fn read_letters(line: &[u8], from: usize) -> Option<Letters>
     ensures { result ≡ letters_of line.now from }
 {
-    if line.len() < LETTERS_LENGTH {
-        return ReadLetters::NoLetters;
-    }
-    if line.len() - LETTERS_LENGTH < from {
-        return ReadLetters::NoLetters;
-    }
-    let construct = construct_of(letter(line, from));
-    let kind = choice(letter(line, from + 2), b'f', b't');
-    let mode = choice(letter(line, from + 4), b'c', b'v');
-    let interrupt = choice(letter(line, from + 6), b'0', b'1');
-    checked(construct, kind, mode, interrupt)
-}
-
-fn checked(construct: u8, kind: u8, mode: u8, interrupt: u8) -> ReadLetters
-    ensures { result ≡ checked_of construct kind mode interrupt }
-{
-    if construct == NONE {
-        return ReadLetters::NoLetters;
-    }
-    if kind == NONE {
-        return ReadLetters::NoLetters;
-    }
-    if mode == NONE {
-        return ReadLetters::NoLetters;
-    }
-    if interrupt == NONE {
-        return ReadLetters::NoLetters;
-    }
-    ReadLetters::Asked(Letters {
+    let [construct, kind, mode, interrupt] = spaced(line.get(from..)?)?;
+    let construct = construct_of(construct)?;
+    let kind = choice(kind, b'f', b't')?;
+    let mode = choice(mode, b'c', b'v')?;
+    let interrupt = choice(interrupt, b'0', b'1')?;
+    Some(Letters {
         construct,
         kind,
         flags: flags_of(mode, interrupt),
     })
 }
 
-// The letter at a place, if a space follows it; else 0.
-fn letter(line: &[u8], at: usize) -> u8
-    ensures { result ≡ letter_at line.now at }
+// The four letters at the start, if each has a space after it.
+#[tactic(auto, using(crate::proofs::Choices::choices), unfolding(crate::specs::Letters::spaced_of))]
+fn spaced(bytes: &[u8]) -> Option<[u8; 4]>
+    ensures { result ≡ spaced_of bytes.now }
 {
-    if line.len() <= at {
-        return 0;
+    match bytes {
+        [first, b' ', second, b' ', third, b' ', fourth, b' ', ..] => Some([
+            *first, *second, *third, *fourth,
+        ]),
+        _ => None,
     }
-    if line.len() - at < 2 {
-        return 0;
-    }
-    if line[at + 1] != b' ' {
-        return 0;
-    }
-    line[at]
 }
 
-fn construct_of(letter: u8) -> u8
+#[tactic(auto, using(crate::proofs::Choices::choices), unfolding(crate::specs::Letters::construct_of))]
+fn construct_of(letter: u8) -> Option<u8>
     ensures { result ≡ construct_of letter }
 {
     match letter {
-        b'e' => 0,
-        b't' => 1,
-        b's' => 2,
-        _ => NONE,
+        b'e' => Some(0),
+        b't' => Some(1),
+        b's' => Some(2),
+        _ => None,
     }
 }
 
-fn choice(letter: u8, zero: u8, one: u8) -> u8
+#[tactic(auto, using(crate::proofs::Choices::choices), unfolding(crate::specs::Letters::choice_of))]
+fn choice(letter: u8, zero: u8, one: u8) -> Option<u8>
     ensures { result ≡ choice_of letter zero one }
 {
     if letter == zero {
-        return 0;
+        Some(0)
+    } else if letter == one {
+        Some(1)
+    } else {
+        None
     }
-    if letter == one {
-        return 1;
-    }
-    NONE
 }
 
 // 1 says that a verdict source is at hand, 2 that the construct would interrupt another.
+#[tactic(auto, using(crate::proofs::Choices::choices), unfolding(crate::specs::Letters::flags_of))]
 fn flags_of(mode: u8, interrupt: u8) -> u8
     ensures { result ≡ flags_of mode interrupt }
 {
-    if interrupt == 0 {
-        return mode;
+    match (mode, interrupt) {
+        (_, 0) => mode,
+        (0, _) => 2,
+        _ => 3,
     }
-    if mode == 0 { 2 } else { 3 }
 }

@@ -11,17 +11,13 @@ pub enum Sort {
     Plain,
 }
 
+#[tactic(auto, using(crate::proofs::Choices::choices), unfolding(crate::specs::Sort::sort_of))]
 pub fn sort_of(line: &[u8]) -> Sort
     ensures { result ≡ sort_of line.now }
 {
-    if line.len() == 0 {
-        return Sort::Comment;
+    match line {
+        [] | [b'#', ..] => Sort::Comment,
+        [.., b'\r'] => Sort::Windows,
+        _ => Sort::Plain,
     }
-    if line[0] == b'#' {
-        return Sort::Comment;
-    }
-    if line[line.len() - 1] == b'\r' {
-        return Sort::Windows;
-    }
-    Sort::Plain
 }

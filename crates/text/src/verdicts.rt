@@ -1,82 +1,47 @@
 // A verdict in a part of a line.
 ghost use Rattle.std.specs.Prelude.{◌≡◌};
-ghost use Rattle.text.specs.Verdict.{fine_of, unfinished_of, wrong_at_of, wrong_of, narrow_of, verdict_of};
+ghost use Rattle.text.specs.Decimal.{number_of};
+ghost use Rattle.text.specs.Verdict.{unfinished_of, wrong_of, narrow_of, verdict_of};
 
-use crate::numbers::{Parsed, decimal};
+use crate::numbers::{decimal, number};
 use crate::places::find;
 use base::Verdict;
 
-#[derive(Clone, Copy)]
-pub enum ReadVerdict {
-    Heard(Verdict),
-    NoVerdict,
-}
-
-// The largest number that a verdict has room for.
-const LARGEST: u64 = 4_294_967_295;
-
 // `o`, `u` and a number, or `e`, a number, `@` and an offset in the body.
-pub fn read_verdict(line: &[u8], from: usize, to: usize) -> ReadVerdict
+#[tactic(auto, using(crate::proofs::Choices::choices), unfolding(crate::specs::Verdict::verdict_of, crate::specs::Verdict::verdict_in))]
+pub fn read_verdict(line: &[u8], from: usize, to: usize) -> Option<Verdict>
     ensures { result ≡ verdict_of line.now from to }
 {
-    if to <= from {
-        return ReadVerdict::NoVerdict;
-    }
-    if line.len() < to {
-        return ReadVerdict::NoVerdict;
-    }
-    match line[from] {
-        b'o' => fine(to - from),
-        b'u' => unfinished(decimal(line, from + 1, to)),
-        b'e' => wrong(line, from + 1, to),
-        _ => ReadVerdict::NoVerdict,
+    let (first, rest) = line.get(from..to)?.split_first()?;
+    match first {
+        b'o' if rest.is_empty() => Some(Verdict::Fine),
+        b'u' => unfinished(rest),
+        b'e' => wrong(rest),
+        _ => None,
     }
 }
 
-fn fine(length: usize) -> ReadVerdict
-    ensures { result ≡ fine_of length }
+#[tactic(auto, unfolding(crate::specs::Verdict::unfinished_of))]
+fn unfinished(digits: &[u8]) -> Option<Verdict>
+    ensures { result ≡ unfinished_of (number_of digits.now) }
 {
-    if length == 1 {
-        return ReadVerdict::Heard(Verdict::Fine);
-    }
-    ReadVerdict::NoVerdict
+    Some(Verdict::Unfinished(narrow(number(digits)?)))
 }
 
-fn unfinished(read: Parsed) -> ReadVerdict
-    ensures { result ≡ unfinished_of read }
+#[tactic(auto, unfolding(crate::specs::Verdict::wrong_of, crate::specs::Verdict::wrong_at_of))]
+fn wrong(bytes: &[u8]) -> Option<Verdict>
+    ensures { result ≡ wrong_of bytes.now }
 {
-    match read {
-        Parsed::Number(number) => ReadVerdict::Heard(Verdict::Unfinished(narrow(number))),
-        Parsed::Bad => ReadVerdict::NoVerdict,
-    }
-}
-
-fn wrong(line: &[u8], from: usize, to: usize) -> ReadVerdict
-    ensures { result ≡ wrong_of line.now from to }
-{
-    let mark = find(line, from, b'@');
-    let offset = decimal(line, mark + 1, to);
-    wrong_at(decimal(line, from, mark), offset)
-}
-
-fn wrong_at(number: Parsed, offset: Parsed) -> ReadVerdict
-    ensures { result ≡ wrong_at_of number offset }
-{
-    match number {
-        Parsed::Number(n) => match offset {
-            Parsed::Number(o) => ReadVerdict::Heard(Verdict::Wrong(narrow(n), o as usize)),
-            Parsed::Bad => ReadVerdict::NoVerdict,
-        },
-        Parsed::Bad => ReadVerdict::NoVerdict,
-    }
+    let mark = find(bytes, 0, b'@');
+    let number = decimal(bytes, 0, mark)?;
+    let offset = decimal(bytes, mark + 1, bytes.len())?;
+    Some(Verdict::Wrong(narrow(number), offset as usize))
 }
 
 // A number that is read is at most the largest.
+#[tactic(auto, using(crate::proofs::Choices::choices), unfolding(crate::specs::Verdict::narrow_of))]
 fn narrow(number: u64) -> u32
     ensures { result ≡ narrow_of number }
 {
-    if LARGEST < number {
-        return 0;
-    }
-    number as u32
+    u32::try_from(number).unwrap_or(0)
 }

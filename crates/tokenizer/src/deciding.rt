@@ -1,4 +1,5 @@
 // Which decision the state of a tokenizer makes: the Rust's `state.rs`, `call`, with what the states read of the tokenizer.
+// A match over the state's number chooses, and no table of closures: each arm hands its state what that one reads, and no other.
 ghost use Rattle.std.specs.Prelude.{◌≡◌, ◌<◌, ◌^◌};
 ghost use Rattle.mdx_jsx.specs.Jsx as jsx;
 ghost use Rattle.tokenizer.specs.Decision as decision;
@@ -45,56 +46,51 @@ fn expression_token(text: u8, back: u8) -> u8
 }
 
 // A byte that is not ASCII.
+#[tactic(auto, using(base::proofs::Ranges::ranges))]
 fn not_ascii(b: u16) -> bool
     ensures { result ≡ decision.not_ascii b }
 {
-    match b {
-        byte::FIRST_NOT_ASCII..=byte::LAST_BYTE => true,
-        _ => false,
-    }
+    matches!(b, byte::FIRST_NOT_ASCII..=byte::LAST_BYTE)
 }
 
 // A tag's state that takes ASCII alone: all but the start and the two of a quoted value.
-#[tactic(auto, using(base::proofs::Ranges::is_within, base::proofs::Ranges::below, base::proofs::Ranges::above))]
+#[tactic(auto, using(base::proofs::Ranges::ranges))]
 fn takes_ascii(name: u8) -> bool
     ensures { result ≡ decision.takes_ascii name }
 {
-    match name {
-        state::MDX_JSX_NAME_BEFORE..=state::MDX_JSX_ES_WHITESPACE_INSIDE_RETRIED => true,
-        _ => false,
-    }
+    matches!(
+        name,
+        state::MDX_JSX_NAME_BEFORE..=state::MDX_JSX_ES_WHITESPACE_INSIDE_RETRIED
+    )
 }
 
 // Whether the state refuses the byte before it runs.
 fn refuses_not_ascii(name: u8, b: u16) -> bool
     ensures { result ≡ decision.refuses_not_ascii name b }
 {
-    if not_ascii(b) {
-        return takes_ascii(name);
-    }
-    false
+    not_ascii(b) && takes_ascii(name)
 }
 
 // Where a verdict that says error stands in the body of an expression; any other stands where it was asked for.
+#[tactic(auto, using(base::proofs::Choice::picks), unfolding(crate::specs::Decision::expression_fault))]
 fn expression_fault(page: &[u8], heard: Verdict, from: usize, at: usize) -> usize
     requires { at < 2 ^ 63 }
     ensures { result ≡ decision.expression_fault page.now heard from at }
 {
     match heard {
-        Verdict::Fine => at,
-        Verdict::Unfinished(_) => at,
         Verdict::Wrong(_, r) => body_places::expression_place(page, from, at, r),
+        _ => at,
     }
 }
 
-// The same in an ESM block.
+// The same in an ESM block. One function for both, with a closure for the place, would be no shorter.
+#[tactic(auto, using(base::proofs::Choice::picks), unfolding(crate::specs::Decision::esm_fault))]
 fn esm_fault(heard: Verdict, from: usize, at: usize) -> usize
     ensures { result ≡ decision.esm_fault heard from at }
 {
     match heard {
-        Verdict::Fine => at,
-        Verdict::Unfinished(_) => at,
         Verdict::Wrong(_, r) => body_places::esm_place(from, at, r),
+        _ => at,
     }
 }
 
@@ -110,16 +106,11 @@ impl Tokenizer {
     fn esm_allowed(self, page: &[u8]) -> bool
         ensures { result ≡ decision.esm_allowed page.now self }
     {
-        if self.job.interrupt {
-            return false;
-        }
-        if self.job.asks {
-            return in_column_one(page, self.at);
-        }
-        false
+        !self.job.interrupt && self.job.asks && in_column_one(page, self.at)
     }
 
     // The decision of a state of an ESM block.
+    #[tactic(auto, using(base::proofs::Choice::picks), unfolding(crate::specs::Decision::esm_decision, base::specs::Table::find))]
     fn esm_state(self, page: &[u8], b: u16) -> Move
         ensures { result ≡ decision.esm_decision page.now self b }
     {
@@ -148,6 +139,7 @@ impl Tokenizer {
     }
 
     // The decision of a state of a tag's attributes.
+    #[tactic(auto, using(base::proofs::Choice::picks), unfolding(crate::specs::Decision::attribute_decision, base::specs::Table::find))]
     fn attribute_state(self, b: u16) -> Move
         ensures { result ≡ decision.attribute_decision self b }
     {
@@ -211,6 +203,7 @@ impl Tokenizer {
     }
 
     // The decision of a state of an expression.
+    #[tactic(auto, using(base::proofs::Choice::picks), unfolding(crate::specs::Decision::expression_decision, base::specs::Table::find))]
     fn expression_state(self, page: &[u8], b: u16) -> Move
         requires { self.at < 2 ^ 63 }
         ensures { result ≡ decision.expression_decision page.now self b }
@@ -245,6 +238,7 @@ impl Tokenizer {
     }
 
     // The states are numbered by construct.
+    #[tactic(auto, using(base::proofs::Choice::picks, base::proofs::Ranges::ranges), unfolding(crate::specs::Decision::state_decision))]
     fn state_decision(self, page: &[u8], b: u16) -> Move
         requires { self.at < 2 ^ 63 }
         ensures { result ≡ decision.state_decision page.now self b }
@@ -260,6 +254,7 @@ impl Tokenizer {
     }
 
     // The decision of the state that the scan is in, on the byte b at its place.
+    #[tactic(auto, using(base::proofs::Choice::picks), unfolding(crate::specs::Decision::decision))]
     pub fn call(self, page: &[u8], b: u16) -> Move
         requires { self.at < 2 ^ 63 }
         ensures { result ≡ decision.decision page.now self b }

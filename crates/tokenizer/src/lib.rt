@@ -1,6 +1,6 @@
 // The tokenizer by value: what a scan remembers between steps (here), which decision its state makes (`deciding`, the Rust's
 // `state.rs`), what a decision does to it (`moving`), and which tokenizers a call can have given (`ranges`).
-#![tactic(auto)]
+#![tactic(auto, using(base::proofs::Choice::picks))]
 
 use base::Verdict;
 
@@ -28,6 +28,7 @@ pub struct Job {
 
 // What the states remember between steps. The fields go from wide to narrow, so that none has a gap behind it: a gap is copied through
 // the stack with every step. Only the quote comes after the bytes, which was counted to be quicker.
+// 0 for none, in `joint` and `last`, and no Option: a scan crosses to C as numbers, and the theorem ScanComesBack says that each comes back.
 #[derive(Clone, Copy)]
 pub struct Regs {
     // The place that a look-ahead goes back to.
@@ -64,6 +65,7 @@ pub struct Tokenizer {
 }
 
 // The constructs, and the kinds, by the numbers of docs/NUMBERS.md.
+// Numbers, and no enums: C hands them over as such, and `construct_listed` and `kind_listed` take every number.
 pub const EXPRESSION: u8 = 0;
 
 pub const TAG: u8 = 1;

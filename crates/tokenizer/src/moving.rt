@@ -12,6 +12,7 @@ pub const MOST_BRACES: u32 = 1_048_576;
 pub const LONGEST_PREFIX: u8 = 2;
 
 // One more brace than `depth`.
+// Not generic with `one_longer`: a bound on types that have a sum, an order and a one, with the laws that the proof needs, is longer than both.
 pub fn one_deeper(depth: u32) -> u32
     ensures { result ≡ one_more depth most_braces }
 {
@@ -26,7 +27,7 @@ pub fn one_deeper(depth: u32) -> u32
 pub fn one_shallower(depth: u32) -> u32
     ensures { result ≡ depth - 1 }
 {
-    if 0 < depth { depth - 1 } else { 0 }
+    depth.saturating_sub(1)
 }
 
 // One column more in a line prefix, which has two at the most.
@@ -51,12 +52,7 @@ fn first_joint(joint: usize, at: usize) -> usize
 fn next_place(at: usize, eat: bool, length: usize) -> usize
     ensures { result ≡ next_place at eat length }
 {
-    if eat {
-        if at < length {
-            return at + 1;
-        }
-    }
-    at
+    if eat && at < length { at + 1 } else { at }
 }
 
 // The place of the next step.
@@ -64,21 +60,8 @@ fn place_after(effect: Effect, next: usize, saved: usize) -> usize
     ensures { result ≡ place_after effect next saved }
 {
     match effect {
-        Effect::Keep => next,
-        Effect::Deeper => next,
-        Effect::Shallower => next,
-        Effect::Open => next,
-        Effect::PrefixBegins => next,
-        Effect::PrefixGoesOn => next,
-        Effect::PrefixEnds => next,
-        Effect::PrefixInTab(_) => next,
-        Effect::Quote(_) => next,
-        Effect::Return(_) => next,
-        Effect::Save => next,
         Effect::Restore => saved,
-        Effect::Last(_) => next,
-        Effect::Fault(_, _) => next,
-        Effect::Refuse(_, _) => next,
+        _ => next,
     }
 }
 
@@ -89,7 +72,7 @@ impl Regs {
     {
         let mut out = self;
         match effect {
-            Effect::Keep => {}
+            Effect::Keep | Effect::Restore => {}
             Effect::Deeper => out.depth = one_deeper(self.depth),
             Effect::Shallower => out.depth = one_shallower(self.depth),
             Effect::Open => {
@@ -103,7 +86,6 @@ impl Regs {
             Effect::Quote(quote) => out.quote = quote,
             Effect::Return(name) => out.back = name,
             Effect::Save => out.saved = at,
-            Effect::Restore => {}
             Effect::Last(n) => out.last = n,
             Effect::Fault(n, place) => {
                 out.last = n;
@@ -120,6 +102,7 @@ impl Regs {
 
 impl Tokenizer {
     // The tokenizer after a decision of its state.
+    #[tactic(auto, unfolding(crate::specs::Moved::moved))]
     pub fn moved(self, m: Move) -> Self
         ensures { result ≡ moved self m }
     {

@@ -8,6 +8,7 @@ use mathlib.Core.List.{List, [], ◌∷◌, ◌++◌}
 use lib.ListN.{length, take, drop}
 use lib.Dec.{ltb, eqb}
 use borrow.Author.Tests.{eq-eqb, ne_eqb, le-leb, lt-leb, le-ltb, lt-ltb, eqb-true, ltb-true, leb-true}
+use Rattle.std.specs.Prelude.{Some, None}
 use Rattle.base.proofs.Choice.{if_yes, if_no, if_is, and_yes, and_no, and_no', and_also, both}
 use Rattle.base.specs.declared.Verdict.{Verdict}
 use Rattle.events.specs.Share.{share_of, share_start}
@@ -21,7 +22,8 @@ use Rattle.mdx_collect.specs.Collect.{Collected, collected, piece_of, collect_of
 use Rattle.worker.specs.declared.Place.{Place}
 use Rattle.worker.specs.declared.Worker.{Worker}
 use Rattle.worker.specs.Place.{place_of, free_place, place_in, ended, place_in_range, next_in, lowest_in, stored, worker_in_range, holds}
-use Rattle.worker.specs.Inner.{Turned, own_in_range}
+use Rattle.worker.specs.Inner.{Turned, sought, own_in_range}
+use Rattle.worker.proofs.Ring.{free_in, none_free, one_free, none_sought, one_sought}
 use Rattle.worker.specs.Reply.{Left, left, refusing}
 use Rattle.worker.specs.Worker.{fresh_of, start_of, placed_by, admit_of, given_by, verdict_of, collect_call, page_in, lies_in, served_at, ready, turn_at, turn_of, holds_page, read_by, body_call, page_at, start_at, share_at, events_at}
 
@@ -44,14 +46,15 @@ range_of w = refl
 pub lies : (p : Place) (lent : ℕ) → lies_in p lent ≡ true → p.at + p.scan.tokenizer.job.length ≤ lent
 lies p lent e = leb-true (p.at + p.scan.tokenizer.job.length) lent e
 
+pub ready_lies : (p : Place) (lent n : ℕ) → ready p lent n ≡ true → p.at + p.scan.tokenizer.job.length ≤ lent
+ready_lies p lent n e = lies p lent (both (lies_in p lent) _ e).0
+
+pub found_near : (n k : ℕ) → sought n ≡ Some k → k < 16
+found_near n k e = (one_sought n k e).1
+
 -- the share of place k lies in the buffer
 pub part_fits : (k n s : ℕ) → k < 16 → s ≡ share_of n → k * s + s ≤ n
 part_fits k n s h e = omega (arith, mul-le-mul_right s (le-pred_of_lt h))
-
-pub part_from : (k n s low : ℕ) → k < 16 → s ≡ share_of n → low ≡ share_start (share_of n) k → low + s ≤ n
-part_from k n s low h e l =
-    let f : low ≡ k * s = l ∙ ap (λ (m : ℕ). k * m) (sym e) in
-    omega (arith, part_fits k n s h e)
 
 -- ---- a place
 
@@ -86,6 +89,12 @@ module _ (i : ℕ) (w : Worker) where
       let c = both place.taken _ b.1 in
       record { small = ltb-true i 16 a.0; range = b.0; taken = c.0; given = c.1 }
 
+  pub held_near : holds i w ≡ true → i < 16
+  held_near e = (held e).small
+
+  pub held_taken : holds i w ≡ true → place.taken ≡ true
+  held_taken e = (held e).taken
+
   pub held_scan : holds i w ≡ true → scan_in_range place.scan ≡ true
   unfolding place_in_range
   held_scan e = (both (eqb place.scan.tokenizer.job.words (share_of w.words)) _ (held e).given).1
@@ -112,17 +121,18 @@ module _ (bytes : List ℕ) (at n start construct kind flags : ℕ) (w : Worker)
   unfolding admit_of
   admit_forged e = if_no _ _ _ _ _ (and_no' (numbers_listed construct kind flags) _ e) refl
 
-  module _ (l : numbers_listed construct kind flags ≡ true) (r : worker_in_range w ≡ true) (k : ℕ) (found : k ≡ lowest_in w.places) where
-    pub admit_full : 16 ≤ k → left w (said 11 []) [] ≡ admit_of bytes at n start construct kind flags w
+  module _ (size : length w.places ≡ 16) (l : numbers_listed construct kind flags ≡ true) (r : worker_in_range w ≡ true) where
+    pub admit_full : free_in w.places ≡ None → left w (said 11 []) [] ≡ admit_of bytes at n start construct kind flags w
     unfolding admit_of
-    admit_full h = if_yes _ _ _ _ _ (and_yes _ _ l r) (if_yes _ _ _ _ _ (le-leb 16 (lowest_in w.places) (omega arith)) refl)
+    admit_full e = if_yes _ _ _ _ _ (and_yes _ _ l r) (if_yes _ _ _ _ _ (le-leb 16 (lowest_in w.places) (none_free w.places size e)) refl)
 
-    pub admit_placed : k < 16 → (b : Begun) → b ≡ begin_of bytes at n start construct kind flags (share_of w.words)
+    pub admit_placed : (k : ℕ) → free_in w.places ≡ Some k → (b : Begun) → b ≡ begin_of bytes at n start construct kind flags (share_of w.words)
         → placed_by b k at w ≡ admit_of bytes at n start construct kind flags w
     unfolding admit_of
-    admit_placed h b e =
+    admit_placed k found b e =
+        let near = one_free w.places size k found in
         if_yes _ _ _ _ _ (and_yes _ _ l r)
-        (if_no _ _ _ _ _ (lt-leb 16 (lowest_in w.places) (omega arith)) (ap₂ (λ (x : Begun) (j : ℕ). placed_by x j at w) e found))
+        (if_no _ _ _ _ _ (lt-leb 16 (lowest_in w.places) (omega arith)) (ap₂ (λ (x : Begun) (j : ℕ). placed_by x j at w) e (sym near.0)))
 
 -- ---- a verdict
 
@@ -182,32 +192,17 @@ module _ (bytes : List ℕ) (w : Worker) (events : List ℕ) where
   turn_refused e = if_no _ _ _ _ _ (ap (λ (b : Bool). eqb (length events) w.words && b) (sym (range_of w)) ∙ e) refl
 
   -- what the test tells
-  pub turn_buffer : can_turn ≡ true → length events ≡ w.words
+  turn_buffer : can_turn ≡ true → length events ≡ w.words
   turn_buffer e = eqb-true (length events) w.words (both (eqb (length events) w.words) _ e).0
 
   pub turn_range : can_turn ≡ true → worker_in_range w ≡ true
   turn_range e = sym (range_of w) ∙ (both (eqb (length events) w.words) _ e).1
 
-  module _ (e : length events ≡ w.words) (r : worker_in_range w ≡ true) (k : ℕ) (found : k ≡ next_in w.places w.last) where
-    turn_here : (d : Left) → d ≡ turn_at k bytes w events → d ≡ turn_of bytes w events
-    unfolding turn_of
-    turn_here d h = if_yes _ _ _ _ _ (and_yes _ _ (eq-eqb (length events) w.words e) r) (h ∙ ap (λ (j : ℕ). turn_at j bytes w events) found)
-
-    pub turn_idle : 16 ≤ k → left w (said 37 []) events ≡ turn_of bytes w events
-    unfolding turn_at
-    turn_idle h = turn_here _ (if_yes _ _ _ _ _ (le-leb 16 k h) refl)
-
-    module _ (n : ℕ) (size : n ≡ share_of w.words) (h : k < 16) where
-      pub turn_unready : ready (place_in w.places k) (length bytes) n ≡ false → refusing w events ≡ turn_of bytes w events
-      unfolding turn_at
-      turn_unready f = turn_here _ (if_no _ _ _ _ _ (lt-leb 16 k h) (if_no _ _ _ _ _ (ap (ready (place_in w.places k) (length bytes)) (sym size) ∙ f) refl))
-
-      pub turn_served : ready (place_in w.places k) (length bytes) n ≡ true → served_at k bytes w events ≡ turn_of bytes w events
-      unfolding turn_at
-      turn_served f = turn_here _ (if_no _ _ _ _ _ (lt-leb 16 k h) (if_yes _ _ _ _ _ (ap (ready (place_in w.places k) (length bytes)) (sym size) ∙ f) refl))
+  pub turn_ring : can_turn ≡ true → w.last < 16
+  turn_ring e = in_ring w (turn_range e)
 
   -- the parts as the code lends them, and what the run left there
-  pub served_by : (k n : ℕ) → n ≡ share_of w.words → (p : Place) (words : List ℕ)
+  served_by : (k n : ℕ) → n ≡ share_of w.words → (p : Place) (words : List ℕ)
       → Turned (place_in w.places k).at
       (run_of (page_in (place_in w.places k) bytes) w.q (place_in w.places k).scan (take (k * n + n - k * n) (drop (k * n) events))) p words
       → left (stored w k p k) (said 36 (k ∷ [])) (take (k * n) events ++ (words ++ drop (k * n + n - k * n) (drop (k * n) events))) ≡ served_at k bytes w events
@@ -219,6 +214,47 @@ module _ (bytes : List ℕ) (w : Worker) (events : List ℕ) where
       ∙ ap₂
       (λ (m l : ℕ). left (stored w k (place_of true (place_in w.places k).at (run m l).scan) k) (said 36 (k ∷ [])) (take (k * l) events ++ ((run m l).words ++ drop m (drop (k * l) events))))
       (sz ∙ en) en
+
+  -- the place that was sought, and what becomes of its turn
+  -- with the place that was sought: what becomes of its turn
+  module _ (e : length events ≡ w.words) (r : worker_in_range w ≡ true) (k : ℕ) (found : k ≡ next_in w.places w.last) where
+    turn_here : (d : Left) → d ≡ turn_at k bytes w events → d ≡ turn_of bytes w events
+    unfolding turn_of
+    turn_here d h = if_yes _ _ _ _ _ (and_yes _ _ (eq-eqb (length events) w.words e) r) (h ∙ ap (λ (j : ℕ). turn_at j bytes w events) found)
+
+    pub idle_here : 16 ≤ k → left w (said 37 []) events ≡ turn_of bytes w events
+    unfolding turn_at
+    idle_here h = turn_here _ (if_yes _ _ _ _ _ (le-leb 16 k h) refl)
+
+    module _ (n : ℕ) (size : n ≡ share_of w.words) (h : k < 16) where
+      unready_here : ready (place_in w.places k) (length bytes) n ≡ false → refusing w events ≡ turn_of bytes w events
+      unfolding turn_at
+      unready_here f = turn_here _ (if_no _ _ _ _ _ (lt-leb 16 k h) (if_no _ _ _ _ _ (ap (ready (place_in w.places k) (length bytes)) (sym size) ∙ f) refl))
+
+      pub served_here : ready (place_in w.places k) (length bytes) n ≡ true → served_at k bytes w events ≡ turn_of bytes w events
+      unfolding turn_at
+      served_here f = turn_here _ (if_no _ _ _ _ _ (lt-leb 16 k h) (if_yes _ _ _ _ _ (ap (ready (place_in w.places k) (length bytes)) (sym size) ∙ f) refl))
+
+  module _ (t : can_turn ≡ true) where
+    pub turn_idle : sought (next_in w.places w.last) ≡ None → left w (said 37 []) events ≡ turn_of bytes w events
+    turn_idle e = idle_here (turn_buffer t) (turn_range t) (next_in w.places w.last) refl (none_sought (next_in w.places w.last) e)
+
+    module _ (k : ℕ) (e : sought (next_in w.places w.last) ≡ Some k) where
+      turn_place : (next_in w.places w.last ≡ k) × (k < 16)
+      turn_place = one_sought (next_in w.places w.last) k e
+
+      pub turn_fits : (n : ℕ) → n ≡ share_of w.words → k * n + n ≤ length events
+      turn_fits n size = omega (arith, turn_buffer t, part_fits k w.words n turn_place.1 size)
+
+      module _ (n : ℕ) (size : n ≡ share_of w.words) where
+        pub turn_unready : ready (place_in w.places k) (length bytes) n ≡ false → refusing w events ≡ turn_of bytes w events
+        turn_unready f = unready_here (turn_buffer t) (turn_range t) k (sym turn_place.0) n size turn_place.1 f
+
+        pub turn_served : ready (place_in w.places k) (length bytes) n ≡ true → (p : Place) (words : List ℕ)
+            → Turned (place_in w.places k).at
+            (run_of (page_in (place_in w.places k) bytes) w.q (place_in w.places k).scan (take (k * n + n - k * n) (drop (k * n) events))) p words
+            → left (stored w k p k) (said 36 (k ∷ [])) (take (k * n) events ++ (words ++ drop (k * n + n - k * n) (drop (k * n) events))) ≡ turn_of bytes w events
+        turn_served f p words d = served_by k n size p words d ∙ served_here (turn_buffer t) (turn_range t) k (sym turn_place.0) n size turn_place.1 f
 
 -- ---- the page and the body of a place
 
@@ -284,6 +320,12 @@ module _ (i : ℕ) (w : Worker) where
   unfolding start_at
   start_is h low e = e ∙ sym (if_yes _ _ _ _ _ (lt-ltb i 16 h) refl)
 
+  -- the share of place i lies in the buffer
+  pub share_fits : i < 16 → (low n : ℕ) → low ≡ start_at i w → n ≡ share_of w.words → low + n ≤ w.words
+  share_fits h low n l e =
+      let f : low ≡ i * n = start_is h low l ∙ ap (λ (m : ℕ). i * m) (sym e) in
+      omega (arith, part_fits i w.words n h e)
+
 module _ (events : List ℕ) (i : ℕ) (w : Worker) where
   pub share_far : 16 ≤ i → [] ≡ share_at events i w
   unfolding share_at
@@ -293,9 +335,10 @@ module _ (events : List ℕ) (i : ℕ) (w : Worker) where
   unfolding share_at
   share_length h = if_no _ _ _ _ _ (and_no' (ltb i 16) _ (ne_eqb (length events) w.words h)) refl
 
-  pub share_near : i < 16 → length events ≡ w.words → (low n : ℕ) → low ≡ share_start (share_of w.words) i → n ≡ share_of w.words → take (low + n - low) (drop low events) ≡ share_at events i w
+  pub share_near : i < 16 → length events ≡ w.words → (low n : ℕ) → low ≡ start_at i w → n ≡ share_of w.words → take (low + n - low) (drop low events) ≡ share_at events i w
   unfolding share_at
-  share_near h e low n el en =
+  share_near h e low n l en =
+      let el = start_is i w h low l in
       let sz : low + n - low ≡ share_of w.words = omega arith in
       if_yes _ _ _ _ _ (and_yes _ _ (lt-ltb i 16 h) (eq-eqb (length events) w.words e)) (ap₂ (λ (m l : ℕ). take m (drop l events)) sz el)
 

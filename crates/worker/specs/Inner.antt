@@ -1,5 +1,6 @@
 -- What inner functions ask of their callers and hand back. No promise to a user of the library cites these.
-use Rattle.std.specs.Prelude.{ℕ, ◌≡◌, Bool, true, ◌&&◌, List, leb, ltb}
+use Rattle.std.specs.Prelude.{ℕ, ◌≡◌, Bool, true, ◌&&◌, List, Option, Some, None, leb, ltb}
+use Rattle.base.specs.If.{when◌then◌else◌}
 use Rattle.scan.specs.declared.Answer.TheVariants.{BadCall}
 use Rattle.scan.specs.Call as single
 use Rattle.worker.specs.declared.Place.{Place}
@@ -16,6 +17,10 @@ called w r = record { worker = w; reply = r }
 -- the worker as it was, and 12
 abbrev pub not_called : Worker → Called
 not_called w = called w (Answered BadCall)
+
+-- the place that a search gave, if it is one
+abbrev pub sought : ℕ → Option ℕ
+sought n = when ltb n places then Some n else None
 
 -- `worker_in_range`, of the two numbers that it reads: the place last served, and the steps of a turn
 unfoldable pub own_in_range : ℕ → ℕ → Bool

@@ -17,6 +17,7 @@ fn has_ended(p: Place) -> bool
 
 impl Worker {
     // The answer of the finished page at place i, which is free again.
+    #[tactic(auto, using(crate::proofs::Laws::held_near, crate::proofs::Laws::collect_none, crate::proofs::Laws::collect_unfinished, crate::proofs::Laws::collect_gives, crate::proofs::Laws::asked_is))]
     pub fn collect(self, i: usize) -> Called
         ensures { left_by result [] ≡ collect_call i self }
     {
@@ -27,10 +28,9 @@ impl Worker {
         if !has_ended(p) {
             return self.refuse();
         }
-        let scan = p.scan;
-        let answer = scan.answer();
-        let worker = self.put(i, free_place());
-        let reply = Reply::Answered(answer);
-        Called { worker, reply }
+        Called {
+            worker: self.put(i, free_place()),
+            reply: Reply::Answered(p.scan.answer()),
+        }
     }
 }

@@ -9,6 +9,7 @@ use base::Verdict;
 impl Worker {
     // The verdict that place i asked for. It is kept, as the place's scan keeps it: the first step of the place's next turn applies it. A
     // scan that awaits none says 12, and is as it was.
+    #[tactic(auto, using(crate::proofs::Laws::held_near, crate::proofs::Laws::held_taken, crate::proofs::Laws::verdict_none, crate::proofs::Laws::verdict_given))]
     pub fn verdict(self, i: usize, verdict: Verdict) -> Called
         ensures { left_by result [] ≡ verdict_of i verdict self }
     {
@@ -16,17 +17,14 @@ impl Worker {
             return self.refuse();
         }
         let p = self.places[i];
-        let scan = p.scan;
-        let given = scan.give(verdict);
-        let scan = given.scan;
-        let answer = given.answer;
+        let given = p.scan.give(verdict);
         let p = Place {
-            taken: true,
-            at: p.at,
-            scan,
+            scan: given.scan,
+            ..p
         };
-        let worker = self.put(i, p);
-        let reply = Reply::Answered(answer);
-        Called { worker, reply }
+        Called {
+            worker: self.put(i, p),
+            reply: Reply::Answered(given.answer),
+        }
     }
 }

@@ -5,7 +5,6 @@
 // waits for. `places` has what they share.
 #![tactic(auto)]
 
-use room::Longest;
 use scan::{Answer, Scan};
 
 pub mod admitting;
@@ -17,6 +16,7 @@ pub mod turning;
 pub mod viewing;
 
 // A place, taken or free. Its page begins at `at` of the lent bytes. A verdict that is kept is in the scan, which then runs again.
+// `taken` is no Option of the two others: WorkerComesBack and WorkersNumbersComeBack of face_theorems speak of what a free place holds too.
 #[derive(Clone, Copy)]
 pub struct Place {
     pub taken: bool,
@@ -37,8 +37,8 @@ pub struct Worker {
 // `Answered`.
 #[derive(Clone, Copy)]
 pub enum Reply {
-    // A worker is started; this is the longest page that cannot run full in any of its places.
-    Started(Longest),
+    // A worker is started; this is the longest page that cannot run full in any of its places, if there is one.
+    Started(Option<usize>),
     // A page is admitted to this place.
     Placed(usize),
     // A turn went to this place.

@@ -1,7 +1,7 @@
 // The places of a worker: which are free, which run, and whether a call can have given them.
-ghost use Rattle.std.specs.Prelude.{◌≡◌, ◌<◌};
+ghost use Rattle.std.specs.Prelude.{◌≡◌, ◌<◌, not, position};
 ghost use Rattle.worker.specs.Ring.{places};
-ghost use Rattle.worker.specs.Place.{free_place, running, place_in_range, lowest_in, stored, worker_in_range, holds};
+ghost use Rattle.worker.specs.Place.{free_place, running, place_in_range, stored, worker_in_range, holds};
 ghost use Rattle.worker.specs.Inner.{not_called, own_in_range};
 
 use crate::{Called, Place, Reply, Worker};
@@ -20,15 +20,15 @@ const LONGEST_TURN: usize = 4096;
 pub(crate) fn free_place() -> Place
     ensures { result ≡ free_place }
 {
-    let scan = no_scan();
     Place {
         taken: false,
         at: 0,
-        scan,
+        scan: no_scan(),
     }
 }
 
 // A page that neither asks nor has ended.
+#[tactic(auto, using(base::proofs::Choice::picks))]
 pub(crate) fn is_running(p: Place) -> bool
     ensures { result ≡ running p }
 {
@@ -39,18 +39,19 @@ pub(crate) fn is_running(p: Place) -> bool
 }
 
 // The scan is one that a call can have given, over a share of so many words.
+#[tactic(auto, using(base::proofs::Choice::picks), unfolding(crate::specs::Place::place_in_range))]
 pub(crate) fn place_in_range(share: usize, p: Place) -> bool
     ensures { result ≡ place_in_range share p }
 {
     if p.scan.tokenizer.job.words != share {
         return false;
     }
-    let scan = p.scan;
-    scan.in_range()
+    p.scan.in_range()
 }
 
 // The ranges of a worker's own numbers: the place last served, and the steps of a turn. A turn asks it of the two, so as not to copy the
 // worker.
+#[tactic(auto, using(base::proofs::Choice::picks), unfolding(crate::specs::Inner::own_in_range))]
 pub(crate) fn own_in_range(last: usize, q: usize) -> bool
     ensures { result ≡ own_in_range last q }
 {
@@ -68,6 +69,7 @@ pub(crate) fn own_in_range(last: usize, q: usize) -> bool
 
 impl Worker {
     // Whether a call can have given this worker.
+    #[tactic(auto, using(crate::proofs::Laws::range_of))]
     pub(crate) fn in_range(self) -> bool
         ensures { result ≡ worker_in_range self }
     {
@@ -76,6 +78,7 @@ impl Worker {
 
     // Whether there is a place i, with a page whose scan a call can have given. Only this place is looked at, so that a call costs the
     // same whatever the others hold.
+    #[tactic(auto, using(base::proofs::Choice::picks, crate::proofs::Laws::holds_far, crate::proofs::Laws::holds_forged, crate::proofs::Laws::holds_by))]
     pub(crate) fn holds(self, i: usize) -> bool
         ensures { result ≡ holds i self }
     {
@@ -92,19 +95,11 @@ impl Worker {
         false
     }
 
-    // The lowest free place; 16 where all are taken.
-    pub(crate) fn lowest(self) -> usize
-        ensures { result ≡ lowest_in self.places }
+    // The lowest free place, if there is one.
+    pub(crate) fn lowest(self) -> Option<usize>
+        ensures { result ≡ position (λ p. not p.taken) self.places }
     {
-        let mut k: usize = 0;
-        while k < PLACES {
-            let p = self.places[k];
-            if !p.taken {
-                return k;
-            }
-            k += 1;
-        }
-        PLACES
+        self.places.iter().position(|p| !p.taken)
     }
 
     // One place replaced.
@@ -120,8 +115,9 @@ impl Worker {
     pub(crate) fn refuse(self) -> Called
         ensures { result ≡ not_called self }
     {
-        let worker = self;
-        let reply = Reply::Answered(Answer::BadCall);
-        Called { worker, reply }
+        Called {
+            worker: self,
+            reply: Reply::Answered(Answer::BadCall),
+        }
     }
 }

@@ -12,18 +12,21 @@ use mdx_collect::{Body, collect, piece};
 use scan::Answer;
 
 // A single scan's answer about a body, as the worker's.
-fn body_reply(body: Body) -> Reply
-    ensures { said_by result ≡ mdx_collect.said_by body }
-{
-    match body {
-        Body::InPage { at, length } => Reply::InPage { at, length },
-        Body::InScratch { length } => Reply::InScratch { length },
-        Body::BadCall => Reply::Answered(Answer::BadCall),
+impl From<Option<Body>> for Reply {
+    ghost from_gives = { λ body reply. said_by reply ≡ mdx_collect.said_by body };
+
+    fn from(body: Option<Body>) -> Reply {
+        match body {
+            Some(Body::InPage { at, length }) => Reply::InPage { at, length },
+            Some(Body::InScratch { length }) => Reply::InScratch { length },
+            None => Reply::Answered(Answer::BadCall),
+        }
     }
 }
 
 impl Worker {
     // Whether place i has a page, which lies inside so many lent bytes.
+    #[tactic(auto, using(crate::proofs::Laws::held_near, crate::proofs::Laws::page_none, crate::proofs::Laws::page_by))]
     fn holds_page(self, i: usize, lent: usize) -> bool
         ensures { result ≡ holds_page i lent self }
     {
@@ -35,6 +38,7 @@ impl Worker {
     }
 
     // Where the body is that place i asks about: a part of its page, or the front of the scratch it was copied to.
+    #[tactic(auto, using(crate::proofs::Laws::page_place, crate::proofs::Laws::page_lies, crate::proofs::Laws::body_none, crate::proofs::Laws::body_read))]
     pub fn body(self, bytes: &[u8], i: usize, scratch: &mut [u8]) -> Called
         ensures { left_by result scratch.new ≡ body_call bytes.now i self scratch.old }
     {
@@ -42,17 +46,16 @@ impl Worker {
             return self.refuse();
         }
         let p = self.places[i];
-        let scan = p.scan;
-        let from = p.at;
-        let to = from + scan.tokenizer.job.length;
-        let body = collect(scan, &bytes[from..to], scratch);
+        let to = p.at + p.scan.tokenizer.job.length;
+        let body = collect(p.scan, &bytes[p.at..to], scratch);
         Called {
             worker: self,
-            reply: body_reply(body),
+            reply: Reply::from(body),
         }
     }
 
     // The page of place i, of which `mdx_collect::part` reads the body; nothing, where the place has none.
+    #[tactic(auto, using(crate::proofs::Laws::page_place, crate::proofs::Laws::piece_held, crate::proofs::Laws::piece_none))]
     pub fn page<'a>(self, bytes: &'a [u8], i: usize) -> &'a [u8]
         ensures { result.now ≡ page_at bytes.now i self }
     {
@@ -64,6 +67,7 @@ impl Worker {
     }
 
     // Where the share of place i begins in the event buffer; 0, where there is no such place.
+    #[tactic(auto, using(crate::proofs::Laws::part_fits, crate::proofs::Laws::start_far, crate::proofs::Laws::start_near))]
     pub fn share_start(self, i: usize) -> usize
         ensures { result ≡ start_at i self }
     {
@@ -74,6 +78,7 @@ impl Worker {
     }
 
     // The share of place i in the event buffer; nothing, where there is no such place, or of a buffer of another length.
+    #[tactic(auto, using(crate::proofs::Laws::share_fits, crate::proofs::Laws::share_far, crate::proofs::Laws::share_length, crate::proofs::Laws::share_near))]
     pub fn share<'a>(self, events: &'a [u32], i: usize) -> &'a [u32]
         ensures { result.now ≡ share_at events.now i self }
     {
@@ -89,6 +94,7 @@ impl Worker {
     }
 
     // The events that the page of place i has written, as words of its share; nothing, where the place has no page.
+    #[tactic(auto, using(crate::proofs::Laws::held_near, crate::proofs::Laws::events_held, crate::proofs::Laws::events_none))]
     pub fn events<'a>(self, events: &'a [u32], i: usize) -> &'a [u32]
         ensures { result.now ≡ events_at events.now i self }
     {

@@ -8,7 +8,7 @@ use base::state;
 use events::share::share_of;
 use mdx_collect::kind::kind_of;
 
-// A place waits for a page, for a turn, for a verdict, or to be collected.
+// A place waits for a page, for a turn, for a verdict, or to be collected: numbers, since `View` crosses to C as it is.
 pub const FREE: u8 = 0;
 
 pub const RUNS: u8 = 1;
@@ -31,6 +31,7 @@ pub struct View {
 }
 
 // What the page of a place waits for, by the state of its scan.
+#[tactic(auto, using(base::proofs::Choice::picks))]
 fn waits_for(name: u8) -> u8
     ensures { result ≡ waits_for name }
 {
@@ -61,21 +62,19 @@ pub fn nothing_seen(waits: u8) -> View
 fn seen(p: Place, first: usize) -> View
     ensures { result ≡ seen_of p first }
 {
-    let scan = p.scan;
-    let waits = waits_for(scan.tokenizer.state);
-    let body = kind_of(scan);
     View {
         at: p.at,
-        length: scan.tokenizer.job.length,
+        length: p.scan.tokenizer.job.length,
         first,
-        events: scan.used,
-        waits,
-        body,
+        events: p.scan.used,
+        waits: waits_for(p.scan.tokenizer.state),
+        body: kind_of(p.scan),
     }
 }
 
 impl Worker {
     // What there is of place i. Where no call can be about it, be it that there is no such place or that no call gave it, it waits for 12.
+    #[tactic(auto, using(crate::proofs::Views::view_far, crate::proofs::Views::view_forged, crate::proofs::Views::view_free, crate::proofs::Views::view_taken, crate::proofs::Views::view_made_up))]
     pub fn view(self, i: usize) -> View
         ensures { result ≡ view_of i self }
     {

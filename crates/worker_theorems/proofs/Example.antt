@@ -16,7 +16,7 @@ use Rattle.base.specs.declared.Verdict.TheVariants.{Fine}
 use Rattle.char_class.specs.Class.{is_whitespace, is_space_or_tab, is_id_start, is_id_cont}
 use Rattle.events.specs.Words.{written}
 use Rattle.page.specs.Text.{read_from}
-use Rattle.page.specs.Utf8.{holds_at, table, begins, sequence_in}
+use Rattle.page.specs.Utf8.{table, begins, sequence_in}
 use Rattle.tokenizer.specs.Decision.{esm_decision, attribute_decision, tag_decision, expression_decision, state_decision, decision}
 use Rattle.tokenizer.specs.Moved.{moved}
 use Rattle.tokenizer.specs.Ranges.{expression, tag, construct_listed, kind_listed, job_in_range, runs_in, is_answer, listed, is_return, numbers_in_range, places_in_range, regs_in_range, verdict_in_range, in_range}
@@ -113,7 +113,6 @@ unfolding
     begin_of
     read_from
     table
-    holds_at
     begins
     sequence_in
     run_of
@@ -194,7 +193,6 @@ unfolding
     begin_of
     read_from
     table
-    holds_at
     begins
     sequence_in
     run_of

@@ -29,7 +29,7 @@ use Rattle.worker.specs.Place.{place_of, place_in, running, next_in, stored, pla
 use Rattle.worker.specs.Reply.{Left, left}
 use Rattle.worker.specs.Ring.{after, places}
 use Rattle.worker.specs.Worker.{page_in, lies_in, run_at, served_at, ready, turn_of}
-use Rattle.worker.proofs.Laws.{part_fits, lies, turn_idle, turn_served}
+use Rattle.worker.proofs.Laws.{part_fits, lies, idle_here, served_here}
 use Rattle.worker_theorems.proofs.Ranged.{Ranged, ranged_own, range_parts}
 use Rattle.worker_theorems.proofs.Ring.{seek_holds}
 use Rattle.worker_theorems.proofs.Views.{view_turn}
@@ -116,7 +116,7 @@ module _ (len q : ℕ) (w : Worker) (r : Ranged len q w) (bytes lent : List ℕ)
       (λ (h : k < places).
       let run : running (place_in w.places k) ≡ true = seek_holds (λ j. running (place_in w.places j)) places (after w.last) h in
       let i = inside k h run in
-      subst P (served_is k h run i ∙ turn_served bytes w lent el (ranged_own len q w r) k refl (share_of w.words) refl h (ready_at k h run i)) (serves k refl h run))
+      subst P (served_is k h run i ∙ served_here bytes w lent el (ranged_own len q w r) k refl (share_of w.words) refl h (ready_at k h run i)) (serves k refl h run))
       (λ (h : k < places → ⊥).
       let l : places ≤ k = omega arith in
-      subst P (turn_idle bytes w lent el (ranged_own len q w r) k refl l) (idle l))
+      subst P (idle_here bytes w lent el (ranged_own len q w r) k refl l) (idle l))

@@ -1,38 +1,32 @@
-use Rattle.batch.proofs.Loops.{work}
-use Rattle.batch.proofs.States.{start_looking, look_closer, next_looking, start_working, work_closer, next_working, worked}
-use Rattle.std.proofs.Common.{◌∙◌, ap}
+use Rattle.std.proofs.Common.{◌∙◌, sym, ap, set}
 use Rattle.batch.specs.declared.Filled.{Filled}
 use Rattle.batch.specs.Batch.{batch}
+use Rattle.batch.proofs.Lists.{all_refused, start_filling, filled_all, filled_more, filled_last}
 use Rattle.batch.proofs.fill.Goals as goal
 
-pub loop-look-init : goal.loop-look-init
-loop-look-init c = start_looking c.args.openings.now c.begin-look.result c.begin-look.ensures
+pub returns-then-not-all_counting : goal.returns-then-not-all_counting
+returns-then-not-all_counting c =
+    ap (λ (x : Filled). batch x c.args.openings.now c.args.events.now) c.outcome.ensures
+    ∙ all_refused c.args.openings.now c.args.events.now c.args.page.now (sym c.if-not-all_counting.ensures)
 
-pub loop-look-smaller : goal.loop-look-smaller
-loop-look-smaller c =
-    (look_closer c.args.openings.now c.loop-look.look c.loop-look.invariant c.loop-look-test.true c.look_at-look.result c.look_at-look.ensures).0
+pub loop-i-init : goal.loop-i-init
+loop-i-init c = start_filling _ _ _ c.begin-run.result (sym c.if-not-all_counting.ensures) c.begin-run.ensures.used (c.begin-run.ensures.sound _)
 
-pub loop-look-preserved : goal.loop-look-preserved
-loop-look-preserved c =
-    next_looking c.args.openings.now c.loop-look.look c.loop-look.invariant c.loop-look-test.true c.look_at-look.result c.look_at-look.ensures
+pub answer_one-run-requires : goal.answer_one-run-requires
+answer_one-run-requires c = c.loop-i.invariant.sound
 
-pub loop-run-init : goal.loop-run-init
-loop-run-init c =
-    start_working c.args.page.now c.args.openings.now c.args.events.now c.loop-look.look c.loop-look.invariant c.loop-look-test.false
-    c.open_page-run.result c.open_page-run.ensures
+pub returns-then-opening-eq-FULL : goal.returns-then-opening-eq-FULL
+returns-then-opening-eq-FULL c =
+    let e = c.answer_one-run.ensures in
+    ap (λ (x : Filled). batch x (set c.loop-i.openings c.loop-i.i c.answer_one-run.new.opening) c.answer_one-run.new.words) c.outcome-then-opening-eq-FULL.ensures
+    ∙ filled_last _ _ _ _ _ _ _ c.loop-i.invariant c.loop-i-test.true _ _ _ c.answer_one-run.result e.record e.words e.used c.if-opening-eq-FULL.true
 
-pub loop-run-smaller : goal.loop-run-smaller
-loop-run-smaller c =
-    (work_closer c.args.page.now c.args.openings.now c.args.events.now (work c.loop-run.openings c.loop-run.events c.loop-run.run) c.loop-run.invariant
-    c.loop-run-test.true c.answer_one-turned.result c.answer_one-turned.new.words c.answer_one-turned.ensures).0
-
-pub loop-run-preserved : goal.loop-run-preserved
-loop-run-preserved c =
-    next_working c.args.page.now c.args.openings.now c.args.events.now (work c.loop-run.openings c.loop-run.events c.loop-run.run) c.loop-run.invariant
-    c.loop-run-test.true c.answer_one-turned.result c.answer_one-turned.new.words c.answer_one-turned.ensures c.answer_one-turned.auto.words
+pub loop-i-preserved : goal.loop-i-preserved
+loop-i-preserved c =
+    let e = c.answer_one-run.ensures in
+    filled_more _ _ _ _ _ _ _ c.loop-i.invariant c.loop-i-test.true _ _ _ _ e.record e.words e.used e.sound c.if-opening-eq-FULL.false
 
 pub returns : goal.returns
 returns c =
-    ap (λ (f : Filled). batch f c.loop-run.openings c.loop-run.events) c.finished.ensures
-    ∙ worked c.args.page.now c.args.openings.now c.args.events.now (work c.loop-run.openings c.loop-run.events c.loop-run.run) c.loop-run.invariant
-    c.loop-run-test.false
+    ap (λ (x : Filled). batch x c.loop-i.openings c.loop-i.events) c.outcome-2.ensures
+    ∙ filled_all _ _ _ _ _ _ _ c.loop-i.invariant c.loop-i-test.false c.loop-i.auto.i-end

@@ -7,6 +7,3 @@ use Rattle.body_places.proofs.expression_place.Given as goal
 abbrev pub invariant-loop-at : goal.invariant-loop-at
 invariant-loop-at l =
     (l.left ≤ 2) × (l.drift ≤ 3) × (place_of (places_of (cells_from l.page l.left l.drift l.at (l.to - l.at))) l.more l.to ≡ place_of (expression_places l.page l.from l.to) l.r l.to)
-
-abbrev pub decreases-loop-at : goal.decreases-loop-at
-decreases-loop-at l = l.to - l.at

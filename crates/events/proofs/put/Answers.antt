@@ -1,40 +1,34 @@
 use native.Mathlib.Omega.{arith}
 use mathlib.Core.Path.{sym, ◌∙◌}
-use Rattle.events.proofs.Laws.{at_most_four, up_to_all, up_to_none, up_to_one, up_to_two, up_to_three, up_to_four}
+use Rattle.events.proofs.Laws.{up_to_none, up_to_more, up_to_all, up_to_four}
 use Rattle.events.proofs.put.Goals as goal
 
--- the first n events are written, where n is one of 0 to 4, and there are no more
-pub returns-then-n-lt1 : goal.returns-then-n-lt1
-returns-then-n-lt1 c =
-    let a = c.args in
-    sym (up_to_none _ a.k a.here a.past a.marks) ∙ up_to_all _ a.k a.here a.past a.marks 0 (omega (arith, c.if-n-lt1.true, c.count-n.ensures))
+-- the first n marks are written, where n is one of 0 to 4, and there are no more
+pub returns-in_default : goal.returns-in_default
+returns-in_default c = up_to_none _ _ _ _ _ ∙ up_to_all _ _ _ _ _ 0 (sym c.mark_in.ensures ∙ c.in_default.is)
 
-pub returns-then-n-lt2 : goal.returns-then-n-lt2
-returns-then-n-lt2 c =
-    let a = c.args in
-    let one = up_to_one a.words.now a.k a.here a.past a.marks _ _ _ (sym (up_to_none _ _ _ _ _)) c.put_one.ensures c.mark_in.ensures in
-    one ∙ up_to_all _ _ _ _ _ 1 (omega (arith, c.if-n-lt2.true, c.if-n-lt1.false, c.count-n.ensures))
+pub returns-in_default-mark_in : goal.returns-in_default-mark_in
+returns-in_default-mark_in c =
+    let one = up_to_more _ _ _ _ _ 0 _ _ _ _ (sym c.mark_in.ensures ∙ c.in-Some.is) (omega arith) (up_to_none _ _ _ _ _) c.put_one.ensures in
+    one ∙ up_to_all _ _ _ _ _ 1 (sym c.mark_in-2.ensures ∙ c.in_default-mark_in.is)
 
-pub returns-then-n-lt3 : goal.returns-then-n-lt3
-returns-then-n-lt3 c =
-    let a = c.args in
-    let one = up_to_one a.words.now a.k a.here a.past a.marks _ _ _ (sym (up_to_none _ _ _ _ _)) c.put_one.ensures c.mark_in.ensures in
-    let two = up_to_two _ _ _ _ _ _ _ _ one c.put_one-2.ensures c.mark_in-2.ensures in
-    two ∙ up_to_all _ _ _ _ _ 2 (omega (arith, c.if-n-lt3.true, c.if-n-lt2.false, c.count-n.ensures))
+pub returns-in_default-mark_in-2 : goal.returns-in_default-mark_in-2
+returns-in_default-mark_in-2 c =
+    let one = up_to_more _ _ _ _ _ 0 _ _ _ _ (sym c.mark_in.ensures ∙ c.in-Some.is) (omega arith) (up_to_none _ _ _ _ _) c.put_one.ensures in
+    let two = up_to_more _ _ _ _ _ 1 _ _ _ _ (sym c.mark_in-2.ensures ∙ c.in-Some-mark_in.is) (omega arith) one c.put_one-2.ensures in
+    two ∙ up_to_all _ _ _ _ _ 2 (sym c.mark_in-3.ensures ∙ c.in_default-mark_in-2.is)
 
-pub returns-then-n-lt4 : goal.returns-then-n-lt4
-returns-then-n-lt4 c =
-    let a = c.args in
-    let one = up_to_one a.words.now a.k a.here a.past a.marks _ _ _ (sym (up_to_none _ _ _ _ _)) c.put_one.ensures c.mark_in.ensures in
-    let two = up_to_two _ _ _ _ _ _ _ _ one c.put_one-2.ensures c.mark_in-2.ensures in
-    let three = up_to_three _ _ _ _ _ _ _ _ two c.put_one-3.ensures c.mark_in-3.ensures in
-    three ∙ up_to_all _ _ _ _ _ 3 (omega (arith, c.if-n-lt4.true, c.if-n-lt3.false, c.count-n.ensures))
+pub returns-in_default-mark_in-3 : goal.returns-in_default-mark_in-3
+returns-in_default-mark_in-3 c =
+    let one = up_to_more _ _ _ _ _ 0 _ _ _ _ (sym c.mark_in.ensures ∙ c.in-Some.is) (omega arith) (up_to_none _ _ _ _ _) c.put_one.ensures in
+    let two = up_to_more _ _ _ _ _ 1 _ _ _ _ (sym c.mark_in-2.ensures ∙ c.in-Some-mark_in.is) (omega arith) one c.put_one-2.ensures in
+    let three = up_to_more _ _ _ _ _ 2 _ _ _ _ (sym c.mark_in-3.ensures ∙ c.in-Some-mark_in-2.is) (omega arith) two c.put_one-3.ensures in
+    three ∙ up_to_all _ _ _ _ _ 3 (sym c.mark_in-4.ensures ∙ c.in_default-mark_in-3.is)
 
 pub returns : goal.returns
 returns c =
-    let a = c.args in
-    let one = up_to_one a.words.now a.k a.here a.past a.marks _ _ _ (sym (up_to_none _ _ _ _ _)) c.put_one.ensures c.mark_in.ensures in
-    let two = up_to_two _ _ _ _ _ _ _ _ one c.put_one-2.ensures c.mark_in-2.ensures in
-    let three = up_to_three _ _ _ _ _ _ _ _ two c.put_one-3.ensures c.mark_in-3.ensures in
-    let four = up_to_four _ _ _ _ _ _ _ _ three c.put_one-4.ensures c.mark_in-4.ensures in
-    four ∙ up_to_all _ _ _ _ _ 4 (omega (arith, c.if-n-lt4.false, c.count-n.ensures, at_most_four a.marks))
+    let one = up_to_more _ _ _ _ _ 0 _ _ _ _ (sym c.mark_in.ensures ∙ c.in-Some.is) (omega arith) (up_to_none _ _ _ _ _) c.put_one.ensures in
+    let two = up_to_more _ _ _ _ _ 1 _ _ _ _ (sym c.mark_in-2.ensures ∙ c.in-Some-mark_in.is) (omega arith) one c.put_one-2.ensures in
+    let three = up_to_more _ _ _ _ _ 2 _ _ _ _ (sym c.mark_in-3.ensures ∙ c.in-Some-mark_in-2.is) (omega arith) two c.put_one-3.ensures in
+    let four = up_to_more _ _ _ _ _ 3 _ _ _ _ (sym c.mark_in-4.ensures ∙ c.in-Some-mark_in-3.is) (omega arith) three c.put_one-4.ensures in
+    four ∙ up_to_four _ _ _ _ _

@@ -10,7 +10,3 @@ returns-then-words-k c =
     let a = c.args in
     let h = c.if-words-k.true in
     rw (get_or-eq_default a.words.now 0 {n = a.k * 4} (omega arith), get_or-eq_default a.words.now 0 {n = a.k * 4 + 1} (omega arith), get_or-eq_default a.words.now 0 {n = a.k * 4 + 2} (omega arith), get_or-eq_default a.words.now 0 {n = a.k * 4 + 3} (omega arith))
-
-pub returns : goal.returns
-unfolding when◌then◌else◌
-returns c = rw (c.in_tab-tab.ensures, c.word_at-first.ensures, c.word_at-offset.ensures, c.word_at-line.ensures, c.word_at-column.ensures)

@@ -1,27 +1,22 @@
-use Prim.Native.Nat.{◌-◌}
-use native.Mathlib.Omega.{arith}
 use mathlib.Core.Path.{sym, ◌∙◌}
-use borrow.Author.Tests.{eq-eqb, ne_eqb}
-use Rattle.base.proofs.Choice.{and_no, and_also, or_yes, or_else}
-use Rattle.mdx_esm.specs.Word.{is_word}
+use Rattle.base.proofs.Choice.{or_yes, or_else}
+use Rattle.mdx_esm.proofs.Words.{part_is_word, no_part}
 use Rattle.mdx_esm.proofs.is_word.Goals as goal
 
-pub returns-then-at-start : goal.returns-then-at-start
-unfolding is_word
-returns-then-at-start c =
-    let a = c.args in
-    sym (and_no _ _ (ne_eqb (a.at - a.start) 6 (λ e. omega arith)))
+-- the part is one of the page, and is compared with `export`, and then with `import`
+pub returns-then-eq : goal.returns-then-eq
+returns-then-eq c =
+    let part = c.in-Some.ensures.lookup.0 in
+    let export = rw (part.2, c.as_slice.ensures) at c.eq.ensures in
+    c.if-eq.true ∙ sym (part_is_word _ _ _ part.0 part.1 ∙ or_yes _ _ (sym export ∙ c.if-eq.true))
 
-pub returns-then-at-start-ne6 : goal.returns-then-at-start-ne6
-unfolding is_word
-returns-then-at-start-ne6 c = sym (and_no _ _ (ne_eqb _ 6 c.if-at-start-ne6.true))
+pub returns-else-eq : goal.returns-else-eq
+returns-else-eq c =
+    let part = c.in-Some.ensures.lookup.0 in
+    let export = rw (part.2, c.as_slice.ensures) at c.eq.ensures in
+    let import = rw (part.2, c.as_slice-else-eq.ensures) at c.eq-else-eq.ensures in
+    or_else _ _ _ (sym export ∙ c.if-eq.false) import ∙ sym (part_is_word _ _ _ part.0 part.1)
 
-pub returns-then-has_word : goal.returns-then-has_word
-unfolding is_word
-returns-then-has_word c =
-    and_also _ _ _ (eq-eqb _ 6 c.if-at-start-ne6.false) (sym (or_yes _ _ (sym c.has_word.ensures ∙ c.if-has_word.true)))
-
-pub returns : goal.returns
-unfolding is_word
-returns c =
-    and_also _ _ _ (eq-eqb _ 6 c.if-at-start-ne6.false) (or_else _ _ _ (sym c.has_word.ensures ∙ c.if-has_word.false) c.has_word-2.ensures)
+-- there is no such part
+pub returns-in-None : goal.returns-in-None
+returns-in-None c = sym (no_part _ _ _ c.in-None.ensures.lookup.0)

@@ -10,12 +10,6 @@ use Rattle.page.specs.Text.{read_text}
 use Rattle.page.specs.Page.{checked_by}
 use Rattle.page.proofs.check.Goals as goal
 
-pub returns-then-length-gt-PAGE_LIMIT : goal.returns-then-length-gt-PAGE_LIMIT
-returns-then-length-gt-PAGE_LIMIT c = search picks depth 12
-
-pub returns-then-length-start : goal.returns-then-length-start
-returns-then-length-start c = search picks depth 12
-
 pub overflow_add-end : goal.overflow_add-end
 overflow_add-end c =
     let a = c.args in
@@ -30,6 +24,7 @@ slice_bounds-text-end c =
 pub returns-then-lies_inside : goal.returns-then-lies_inside
 returns-then-lies_inside c =
     let a = c.args in
+    let taken = c.in_ok-numbers_fit.ensures.taken in
     let whole : a.at + a.length - a.at ≡ a.length = omega arith in
     let part : ℕ → List ℕ = λ n. take n (drop a.at a.bytes.now) in
     let read : c.text.result ≡ checked_by (part a.length) a.start (read_text (part a.length)) =
@@ -38,4 +33,4 @@ returns-then-lies_inside c =
     search picks depth 12
 
 pub returns : goal.returns
-returns c = search picks depth 12
+returns c = let taken = c.in_ok-numbers_fit.ensures.taken in search picks depth 12

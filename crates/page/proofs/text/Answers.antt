@@ -2,6 +2,7 @@
 use native.Mathlib.Omega.{arith}
 use mathlib.Core.Path.{refl}
 use Rattle.page.proofs.Passing.{reads_first, counts, reads_return, reads_ill, reads_shift, reads_ascii, reads_plain, reads_more, reads_all, begun_small}
+use Rattle.page.proofs.Places.{sized, unsized}
 use Rattle.page.proofs.Reading.{next_place}
 use Rattle.page.proofs.text.Goals as goal
 
@@ -44,7 +45,7 @@ loop-at-smaller-then-shifts c = omega (arith, c.loop-at-test.true, c.skip_plain-
 pub loop-at-preserved-then-shifts : goal.loop-at-preserved-then-shifts
 loop-at-preserved-then-shifts c =
     reads_plain _ _ _ _ _
-    (reads_shift _ _ _ _ _ c.loop-at.invariant c.loop-at-test.true _ _ _ c.wide-b.ensures c.if-byte-lt128.true c.if-byte-eq-CARRIAGE_RETURN.false c.anchor_past-anchor.ensures c.begun_by-begun.ensures)
+    (reads_shift _ _ _ _ _ c.loop-at.invariant c.loop-at-test.true _ _ _ c.from-b.ensures c.if-byte-lt128.true c.if-byte-eq-CARRIAGE_RETURN.false c.anchor_past-anchor.ensures c.begun_by-begun.ensures)
     _ c.skip_plain-at-then-shifts.ensures
 
 -- another ASCII byte
@@ -56,30 +57,30 @@ loop-at-smaller-then-byte-lt128 c = omega (arith, c.loop-at-test.true)
 
 pub loop-at-preserved-then-byte-lt128 : goal.loop-at-preserved-then-byte-lt128
 loop-at-preserved-then-byte-lt128 c =
-    reads_ascii _ _ _ _ _ c.loop-at.invariant c.loop-at-test.true _ _ c.wide-b.ensures c.if-byte-lt128.true c.if-byte-eq-CARRIAGE_RETURN.false c.shifts.ensures c.if-shifts.false
+    reads_ascii _ _ _ _ _ c.loop-at.invariant c.loop-at-test.true _ _ c.from-b.ensures c.if-byte-lt128.true c.if-byte-eq-CARRIAGE_RETURN.false c.shifts.ensures c.if-shifts.false
 
 -- a sequence, or none
-pub size_at-size-requires : goal.size_at-size-requires
-size_at-size-requires c = record { at_in_bounds = c.loop-at-test.true; byte_value = refl }
+pub size_at-requires : goal.size_at-requires
+size_at-requires c = record { at_in_bounds = c.loop-at-test.true; byte_value = refl }
 
-pub line_from-requires-then-size-eq0 : goal.line_from-requires-then-size-eq0
-line_from-requires-then-size-eq0 c =
+pub line_from-requires-in_default : goal.line_from-requires-in_default
+line_from-requires-in_default c =
     let t = c.loop-at-test.true in
     let n = counts _ _ _ _ _ c.loop-at.invariant t in
     (n.before, omega (arith, n.column, t, c.requires.1))
 
-pub returns-then-size-eq0 : goal.returns-then-size-eq0
-returns-then-size-eq0 c = reads_ill _ _ _ _ _ c.loop-at.invariant c.loop-at-test.true _ _ _ c.line_from-then-size-eq0.ensures c.bad_text-then-size-eq0.ensures c.size_at-size.ensures c.if-size-eq0.true
+pub returns-in_default : goal.returns-in_default
+returns-in_default c = reads_ill _ _ _ _ _ c.loop-at.invariant c.loop-at-test.true _ _ c.line_from-in_default.ensures c.bad_text-in_default.ensures (unsized _ c.in_default.ensures)
 
 -- past it
 pub overflow_add-at-else-byte-lt128 : goal.overflow_add-at-else-byte-lt128
-overflow_add-at-else-byte-lt128 c = let n = next_place _ _ c.loop-at-test.true c.size_at-size.result c.size_at-size.ensures in omega (arith, n, c.requires.1)
+overflow_add-at-else-byte-lt128 c = let s = sized _ _ c.in-Some.ensures in let n = next_place _ _ c.loop-at-test.true _ s.0 in omega (arith, n, c.requires.1)
 
 pub loop-at-smaller : goal.loop-at-smaller
-loop-at-smaller c = let n = next_place _ _ c.loop-at-test.true c.size_at-size.result c.size_at-size.ensures in omega (arith, n, c.if-size-eq0.false)
+loop-at-smaller c = let s = sized _ _ c.in-Some.ensures in let n = next_place _ _ c.loop-at-test.true _ s.0 in omega (arith, n, s.1)
 
 pub loop-at-preserved : goal.loop-at-preserved
-loop-at-preserved c = reads_more _ _ _ _ _ c.loop-at.invariant c.loop-at-test.true _ c.if-byte-lt128.false c.size_at-size.ensures c.if-size-eq0.false
+loop-at-preserved c = reads_more _ _ _ _ _ c.loop-at.invariant c.loop-at-test.true _ c.if-byte-lt128.false (sized _ _ c.in-Some.ensures).0 (sized _ _ c.in-Some.ensures).1
 
 -- the page is read
 pub line_from-requires-2 : goal.line_from-requires-2

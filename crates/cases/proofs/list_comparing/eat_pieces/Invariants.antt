@@ -2,10 +2,8 @@
 use Rattle.std.proofs.Common.{◌≡◌, ◌+◌, ◌-◌, length}
 use Rattle.cases.proofs.list_comparing.eat_pieces.Given as goal
 
-abbrev pub invariant-loop-front : goal.invariant-loop-front
-invariant-loop-front l =
-    length l.words ≡ length l.initial.words
+abbrev pub invariant-loop-piece : goal.invariant-loop-piece
+invariant-loop-piece l = length l.words ≡ length l.initial.words
 
-abbrev pub decreases-loop-front : goal.decreases-loop-front
-decreases-loop-front l =
-    length l.list + 1 - l.front.at
+abbrev pub decreases-loop-piece : goal.decreases-loop-piece
+decreases-loop-piece l = length l.list.text.now + 1 - l.front.at

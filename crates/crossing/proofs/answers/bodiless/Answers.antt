@@ -6,6 +6,6 @@ pub returns-then-number-eq12 : goal.returns-then-number-eq12
 unfolding when◌then◌else◌
 returns-then-number-eq12 c = simp (eq-eqb _ _ c.if-number-eq12.true)
 
-pub returns : goal.returns
+pub returns-else-number-eq12 : goal.returns-else-number-eq12
 unfolding when◌then◌else◌
-returns c = simp (ne_eqb _ _ c.if-number-eq12.false)
+returns-else-number-eq12 c = simp (ne_eqb _ _ c.if-number-eq12.false)

@@ -4,4 +4,4 @@ use Rattle.crossing.proofs.scans.lines_in.Goals as goal
 
 pub returns : goal.returns
 unfolding lines_in scan_in
-returns c = rw c.tab_in-tab.ensures
+returns c = rw c.past.ensures

@@ -4,4 +4,4 @@ use Rattle.crossing.proofs.scans.scan_in.Goals as goal
 
 pub returns : goal.returns
 unfolding job_in regs_in lines_in scan_in
-returns c = rw (c.lines_in-lines.ensures, c.verdict_in-heard.ensures, c.regs_in-regs.ensures, c.job_in-job.ensures)
+returns c = rw (c.lines_in.ensures, c.regs_in.ensures, c.job_in.ensures, c.verdict_in.ensures)

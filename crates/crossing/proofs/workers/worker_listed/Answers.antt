@@ -7,19 +7,19 @@ use Rattle.crossing.proofs.workers.worker_listed.Goals as goal
 
 pub loop-k-init : goal.loop-k-init
 unfolding worker_listed
-loop-k-init c = (omega arith, refl)
+loop-k-init c = refl
 
 pub returns-then-not-place_listed : goal.returns-then-not-place_listed
 returns-then-not-place_listed c =
     let test : ℕ → _ = λ i. place_listed (numbers_at c.args.numbers.places i) in
-    sym (c.loop-k.invariant.1 ∙ each_fails test c.loop-k.k (16 - c.loop-k.k) (omega arith) (sym c.place_listed.ensures ∙ c.if-not-place_listed.true))
+    sym (c.loop-k.invariant ∙ each_fails test c.loop-k.k (16 - c.loop-k.k) (omega arith) (sym c.place_listed.ensures ∙ c.if-not-place_listed.true))
 
 pub loop-k-preserved : goal.loop-k-preserved
 loop-k-preserved c =
     let test : ℕ → _ = λ i. place_listed (numbers_at c.args.numbers.places i) in
-    (omega arith, c.loop-k.invariant.1 ∙ each_goes_on test c.loop-k.k (16 - c.loop-k.k) (omega arith) (sym c.place_listed.ensures ∙ c.if-not-place_listed.false) ∙ ap (λ (n : ℕ). each test (c.loop-k.k + 1) n) (omega arith))
+    c.loop-k.invariant ∙ each_goes_on test c.loop-k.k (16 - c.loop-k.k) (omega arith) (sym c.place_listed.ensures ∙ c.if-not-place_listed.false) ∙ ap (λ (n : ℕ). each test (c.loop-k.k + 1) n) (omega arith)
 
 pub returns : goal.returns
 returns c =
     let test : ℕ → _ = λ i. place_listed (numbers_at c.args.numbers.places i) in
-    sym (c.loop-k.invariant.1 ∙ each_none test c.loop-k.k (16 - c.loop-k.k) (omega arith))
+    sym (c.loop-k.invariant ∙ each_none test c.loop-k.k (16 - c.loop-k.k) (omega arith))

@@ -1,10 +1,9 @@
--- The invariant: what the count says of the bytes looked at so far.
-use Prim.Native.Nat.{◌-◌}
-use Rattle.page.proofs.Blocks.{Counted}
+-- The invariant: the count is that of the bytes looked at so far.
+use mathlib.Core.Path.{◌≡◌}
+use lib.ListN.{take}
+use Rattle.std.specs.List.{count_by}
+use Rattle.page.specs.Plain.{is_plain}
 use Rattle.page.proofs.plain.plain_block.Given as goal
 
-abbrev pub invariant-loop-k : goal.invariant-loop-k
-invariant-loop-k l = Counted l.page l.at l.k l.plain
-
-abbrev pub decreases-loop-k : goal.decreases-loop-k
-decreases-loop-k l = 16 - l.k
+abbrev pub invariant-loop-b : goal.invariant-loop-b
+invariant-loop-b l = l.plain ≡ count_by is_plain (take l.b-index l.block)

@@ -3,10 +3,6 @@ use Rattle.report.specs.Output.{bad_lines_put}
 use Rattle.report.proofs.Puts.{then_put}
 use Rattle.report.proofs.output.put_bad_lines.Goals as goal
 
-pub returns-then-count-eq0 : goal.returns-then-count-eq0
-unfolding bad_lines_put
-returns-then-count-eq0 g c = search picks depth 12
-
 pub returns : goal.returns
 unfolding bad_lines_put
 returns g c =

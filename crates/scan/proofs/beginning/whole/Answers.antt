@@ -5,23 +5,23 @@ use Rattle.scan.proofs.Wholes.{whole_admitted, whole_ran, whole_refused}
 use Rattle.scan.proofs.beginning.whole.Goals as goal
 
 pub overflow_add-end : goal.overflow_add-end
-overflow_add-end c = let l = (whole_admitted c.args.bytes.now c.args.at c.args.length c.args.start c.args.construct c.args.kind c.args.flags c.args.events.now _ c.requires _ c.begin_checked-began.ensures _ c.in-Started.is).lies in omega arith
+overflow_add-end c = let l = (whole_admitted c.args.bytes.now c.args.request.at c.args.request.length c.args.request.start c.args.request.construct c.args.request.kind c.args.request.flags c.args.events.now _ c.requires _ c.begin_checked-began.ensures _ c.in-Ok.is).lies in omega arith
 
 pub step_bound-allowance-requires : goal.step_bound-allowance-requires
 step_bound-allowance-requires c =
-    let admitted = whole_admitted c.args.bytes.now c.args.at c.args.length c.args.start c.args.construct c.args.kind c.args.flags c.args.events.now _ c.requires _ c.begin_checked-began.ensures _ c.in-Started.is in
+    let admitted = whole_admitted c.args.bytes.now c.args.request.at c.args.request.length c.args.request.start c.args.request.construct c.args.request.kind c.args.request.flags c.args.events.now _ c.requires _ c.begin_checked-began.ensures _ c.in-Ok.is in
     (admitted.starts, admitted.short)
 
 pub slice_bounds-run-end : goal.slice_bounds-run-end
-slice_bounds-run-end c = let l = (whole_admitted c.args.bytes.now c.args.at c.args.length c.args.start c.args.construct c.args.kind c.args.flags c.args.events.now _ c.requires _ c.begin_checked-began.ensures _ c.in-Started.is).lies in search (rules, l)
+slice_bounds-run-end c = let l = (whole_admitted c.args.bytes.now c.args.request.at c.args.request.length c.args.request.start c.args.request.construct c.args.request.kind c.args.request.flags c.args.events.now _ c.requires _ c.begin_checked-began.ensures _ c.in-Ok.is).lies in search (rules, l)
 
-pub returns-in-Started : goal.returns-in-Started
-returns-in-Started c =
+pub returns-in-Ok : goal.returns-in-Ok
+returns-in-Ok c =
     let a = c.args in
-    whole_ran a.bytes.now a.at a.length a.start a.construct a.kind a.flags a.events.now _ c.requires _ c.begin_checked-began.ensures _ _ _ c.in-Started.is c.step_bound-allowance.ensures c.run.ensures
+    whole_ran a.bytes.now a.request.at a.request.length a.request.start a.request.construct a.request.kind a.request.flags a.events.now _ c.requires _ c.begin_checked-began.ensures _ _ _ c.in-Ok.is c.step_bound-allowance.ensures c.run.ensures
 
-pub returns-in-Refused : goal.returns-in-Refused
-returns-in-Refused c =
+pub returns-in-Err : goal.returns-in-Err
+returns-in-Err c =
     let a = c.args in
     let k = c.not_begun.ensures in
-    rw (k.0, k.1) (whole_refused a.bytes.now a.at a.length a.start a.construct a.kind a.flags a.events.now _ c.requires _ c.begin_checked-began.ensures _ c.in-Refused.is)
+    rw (k.0, k.1) (whole_refused a.bytes.now a.request.at a.request.length a.request.start a.request.construct a.request.kind a.request.flags a.events.now _ c.requires _ c.begin_checked-began.ensures _ c.in-Err.is)

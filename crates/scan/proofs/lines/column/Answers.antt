@@ -11,7 +11,7 @@ overflow_add-result c = omega (arith, columns_few c.args.tab, c.columns.ensures,
 pub returns-then-line-lt-HIGHEST_COLUMN : goal.returns-then-line-lt-HIGHEST_COLUMN
 returns-then-line-lt-HIGHEST_COLUMN c =
     let a = c.args in
-    (if_yes _ _ _ _ _ (lt-ltb a.line.column 4194313 c.if-line-lt-HIGHEST_COLUMN.true) (rw c.columns.ensures), omega (arith, columns_few a.tab, c.columns.ensures))
+    (if_yes _ _ _ _ _ (lt-ltb a.line.column 4194313 c.if-line-lt-HIGHEST_COLUMN.true) (rw (c.from.ensures, c.columns.ensures)), omega (arith, columns_few a.tab, c.columns.ensures))
 
 pub returns : goal.returns
 returns c = (if_no _ _ _ _ _ (le-ltb c.args.line.column 4194313 c.if-line-lt-HIGHEST_COLUMN.false) refl, omega arith)

@@ -1,16 +1,14 @@
--- The invariant: the digits passed say the value, which has at most as many digits.
-use Prim.Native.Nat.{◌-◌, ◌^◌, ◌≤◌, ◌<◌}
+-- The invariant: the digits passed are digits and say the value, which has at most as many.
+use Prim.Native.Nat.{◌^◌, ◌<◌}
 use mathlib.Core.Path.{◌≡◌}
-use lib.ListN.{length, drop}
+use mathlib.Core.Bool.{true}
+use lib.ListN.{take}
 use Rattle.text.specs.Decimal.{all_digits, value_from}
 use Rattle.text.proofs.numbers.number.Given as goal
 
-abbrev pub invariant-loop-at : goal.invariant-loop-at
-invariant-loop-at l =
-    (l.at ≤ length l.digits) ×
-    (l.value < 10 ^ l.at) ×
-    (all_digits l.digits ≡ all_digits (drop l.at l.digits)) ×
-    (value_from 0 l.digits ≡ value_from l.value (drop l.at l.digits))
-
-abbrev pub decreases-loop-at : goal.decreases-loop-at
-decreases-loop-at l = length l.digits - l.at
+abbrev pub invariant-loop-digit : goal.invariant-loop-digit
+invariant-loop-digit l = record {
+  small : l.value < 10 ^ l.digit-index;
+  digits : all_digits (take l.digit-index l.digits) ≡ true;
+  said : l.value ≡ value_from 0 (take l.digit-index l.digits);
+}

@@ -1,8 +1,0 @@
-use Rattle.base.proofs.Choice.{picks}
-use Rattle.body_places.proofs.prefix_after.Goals as goal
-
-pub returns-then-b-eq-LINE_FEED : goal.returns-then-b-eq-LINE_FEED
-returns-then-b-eq-LINE_FEED c = search picks depth 12
-
-pub returns-else-b-eq-LINE_FEED : goal.returns-else-b-eq-LINE_FEED
-returns-else-b-eq-LINE_FEED c = search picks depth 12

@@ -1,8 +1,0 @@
--- The turns that are left are fewer after each.
-use Rattle.calls.proofs.run_all.Given as goal
-
-abbrev pub invariant-loop-left : goal.invariant-loop-left
-invariant-loop-left g l = Unit {0}
-
-abbrev pub decreases-loop-left : goal.decreases-loop-left
-decreases-loop-left g l = l.left

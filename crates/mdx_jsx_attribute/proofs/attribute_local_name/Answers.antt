@@ -1,4 +1,0 @@
-use Rattle.mdx_jsx_attribute.proofs.attribute_local_name.Goals as goal
-
-pub returns : goal.returns
-returns c = rw (← c.attribute_local_name_ends.ensures) c.in_a_name.ensures

@@ -1,4 +1,0 @@
-use Rattle.mdx_jsx_name.proofs.member_name.Goals as goal
-
-pub returns : goal.returns
-returns c = rw (← c.member_name_ends.ensures, ← c.link_note.ensures) c.in_a_name.ensures

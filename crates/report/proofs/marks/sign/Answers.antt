@@ -1,7 +1,0 @@
-use Rattle.report.proofs.marks.sign.Goals as goal
-
-pub returns-then-exit : goal.returns-then-exit
-returns-then-exit c = rw c.if-exit.true c.text.ensures.out_after
-
-pub returns : goal.returns
-returns c = rw c.if-exit.false c.text-2.ensures.out_after

@@ -1,4 +1,0 @@
-use Rattle.scan.proofs.Scan.passed.Goals as goal
-
-pub returns : goal.returns
-returns c = rw (c.passed_lines-lines.ensures, c.count_steps-steps.ensures, c.step_bound.ensures)
