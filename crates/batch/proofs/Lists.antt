@@ -7,8 +7,7 @@ use mathlib.Core.List.{List, [], ◌∷◌, ◌++◌}
 use lib.Dec.{eqb}
 use lib.ListN.{length, get_or, set, take, drop, length-set, drop_of_length-le}
 use lib.Seq.{take_all}
-use borrow.Author.Tests.{ne_eqb}
-use Rattle.std.proofs.Common.{append_assoc, append-nil, eq-eqb}
+use Rattle.std.proofs.Common.{append_assoc, append-nil}
 use Rattle.std.proofs.lemmas.List.{take-append-drop, take-set, take_more_set, drop-set, drop-set-lt, drop_more}
 use Rattle.std.specs.List.{list_all}
 use Rattle.base.specs.If.{when◌then◌else◌}
@@ -101,13 +100,13 @@ module _ (page : List ℕ) (os : List Opening) (words : List ℕ) where
 
     -- as the code has it
     module _ (f : Opening) (zs : List ℕ) (next : Run) (f_is : f ≡ record_now) (zs_is : zs ≡ words_now) (u : next.used ≡ r.used + f.events) where
-      pub filled_more : Sound page zs next → (f.answer ≡ full → ⊥) → Filling page os words (n + 1) (set now n f) zs next
+      pub filled_more : Sound page zs next → false ≡ eqb f.answer full → Filling page os words (n + 1) (set now n f) zs next
       filled_more sound e = record {
         sound = sound;
         long = length-set now n f ∙ h.long;
         left = drop-set-lt (n + 1) now n f (omega arith) ∙ behind_is;
-        goal = rw (u, f_is, zs_is) (on (ne_eqb record_now.answer full (λ z. e (ap (λ (x : Opening). x.answer) f_is ∙ z))));
+        goal = rw (u, f_is, zs_is) (on (sym (e ∙ ap (λ (x : Opening). eqb x.answer full) f_is)));
       }
 
-      pub filled_last : f.answer ≡ full → batch (answered full (n + 1) next.used) (set now n f) zs ≡ batch_of page os words
-      filled_last e = rw (u, f_is, zs_is) (ends (eq-eqb record_now.answer full (sym (ap (λ (x : Opening). x.answer) f_is) ∙ e)))
+      pub filled_last : true ≡ eqb f.answer full → batch (answered full (n + 1) next.used) (set now n f) zs ≡ batch_of page os words
+      filled_last e = rw (u, f_is, zs_is) (ends (sym (e ∙ ap (λ (x : Opening). eqb x.answer full) f_is)))

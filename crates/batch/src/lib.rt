@@ -7,7 +7,7 @@
 ghost use Rattle.std.specs.Prelude.{◌≡◌};
 ghost use Rattle.batch.specs.Batch.{batch, batch_of, answered};
 
-use crate::turns::{all_counting, answer_one, begin};
+use crate::turns::{all_counting, answer_one, begin, ends_list};
 use base::state;
 
 pub mod many;
@@ -58,6 +58,7 @@ fn outcome(answer: u8, records: usize, events: usize) -> Filled
 }
 
 // Every record of the list is answered by a single scan over the page, with steps enough, in list order. Full room ends the list.
+#[tactic(auto, using(crate::proofs::Lists::all_refused))]
 pub fn fill(page: &[u8], openings: &mut [Opening], events: &mut [u32]) -> Filled
     ensures { batch result openings.new events.new ≡ batch_of page.now openings.old events.old }
 {
@@ -67,7 +68,7 @@ pub fn fill(page: &[u8], openings: &mut [Opening], events: &mut [u32]) -> Filled
     let mut run = begin(page);
     for (i, opening) in openings.iter_mut().enumerate() {
         run = answer_one(page, opening, events, run);
-        if opening.answer == state::FULL {
+        if ends_list(opening) {
             return outcome(state::FULL, i + 1, run.used);
         }
     }

@@ -37,7 +37,8 @@ fn ended(opening: Opening, first: usize, end: usize) -> Opening
     }
 }
 
-// With a place, a where-number and a note; the last two are 0 where the answer does not carry them.
+// With a place, a where-number and a note; the last two are 0 where the answer does not carry them. No struct of them: each arm of `filled`
+// would put one together, to be taken apart here.
 fn placed(opening: Opening, first: usize, answer: u8, spot: Spot, site: u8, note: u8) -> Opening
     ensures { result ≡ placed_of opening first answer spot site note }
 {
@@ -63,7 +64,7 @@ fn tallied(opening: Opening, tally: Tally) -> Opening
 }
 
 // The record with what a single scan answers, by the numbers of docs/NUMBERS.md, since it is handed to C. Of what no counting scan
-// answers it has the number alone.
+// answers it has the number alone. `report` and `crossing` have such a match each, and it is not shared: their structs have other fields.
 pub(crate) fn filled(opening: Opening, first: usize, answer: Answer) -> Opening
     ensures { result ≡ filled_of opening first (said_by answer) }
 {

@@ -1,10 +1,12 @@
 // What is done with the records of a list, one after the other: each is looked at first, and then each is answered.
-ghost use Rattle.std.specs.Prelude.{◌≡◌, ◌+◌, ℕ, List};
+ghost use Rattle.std.specs.Prelude.{◌≡◌, ◌+◌, ℕ, List, eqb};
+ghost use Rattle.base.specs.State.{full};
 ghost use Rattle.batch.specs.Batch.{counting, all_counting, record_of, words_of};
 ghost use Rattle.batch.specs.Inner.{Sound};
 
 use crate::Opening;
 use crate::record::filled;
+use base::state;
 use page::Fault;
 use page::line::Line;
 use scan::Request;
@@ -23,13 +25,9 @@ pub struct Run {
 fn counts(opening: Opening) -> bool
     ensures { result ≡ counting opening }
 {
-    if opening.construct == tokenizer::ESM {
-        return false;
-    }
-    if opening.flags % INTERRUPT == ASKS {
-        return false;
-    }
-    numbers_listed(opening.construct, opening.kind, opening.flags)
+    opening.construct != tokenizer::ESM
+        && opening.flags % INTERRUPT != ASKS
+        && numbers_listed(opening.construct, opening.kind, opening.flags)
 }
 
 // Whether each of them does.
@@ -49,6 +47,13 @@ pub(crate) fn begin(page: &[u8]) -> Run
         from: 0,
         checked: page::check(page, 0, page.len(), 0),
     }
+}
+
+// Whether a record is the last that is filled: there was no room for all of its events.
+pub(crate) fn ends_list(opening: &Opening) -> bool
+    ensures { result ≡ eqb opening.now.answer full }
+{
+    opening.answer == state::FULL
 }
 
 // One record: a single scan with steps enough, over the event room that the earlier ones left. The check of the page for its start is

@@ -47,7 +47,8 @@ fn drift_at(b: u16, drift: usize) -> usize
     }
 }
 
-// The place of byte r of the expression's body between `from` and `to`, or `to` where the body is not that long.
+// The place of byte r of the expression's body between `from` and `to`, or `to` where the body is not that long: no Option, since an error
+// past the body's end is placed there (`place_of`).
 pub fn expression_place(page: &[u8], from: usize, to: usize, r: usize) -> usize
     requires { to < 2 ^ 63 }
     ensures { result ≡ body.place_of (body.expression_places page.now from to) r to }
@@ -79,7 +80,7 @@ pub fn expression_place(page: &[u8], from: usize, to: usize, r: usize) -> usize
     to
 }
 
-// The place of byte r of the ESM block between `from` and `to`, or `to` where the block is not that long.
+// The place of byte r of the ESM block between `from` and `to`, or `to` where the block is not that long, as above.
 #[tactic(auto, using(crate::proofs::Laws::counted, crate::proofs::Laws::past))]
 pub fn esm_place(from: usize, to: usize, r: usize) -> usize
     ensures { result ≡ body.place_of (body.esm_places from to) r to }

@@ -2,7 +2,8 @@
 use mdx_collect::Body;
 use worker::{Reply, Worker};
 
-// The reply to a call for the body at a place: where it stands, its length and its bytes.
+// The reply to a call for the body at a place: where it stands, its length and its bytes. The script's parts are lent one by one: the proof
+// has no rule for a `&` beside a `&mut` of one struct.
 pub(crate) fn put_body(
     rt: &impl Print,
     worker: Worker,
@@ -22,7 +23,7 @@ pub(crate) fn put_body(
     report::put_hex(rt, out, at, part)
 }
 
-// Where the reply says that the body is; None where it is a refusal.
+// Where the reply says that the body is; None where it is a refusal. Neither type is of this crate, so it can't be a `From`.
 pub(crate) fn body_in(reply: Reply) -> Option<Body> {
     match reply {
         Reply::InPage { at, length } => Some(Body::InPage { at, length }),

@@ -3,7 +3,8 @@ use crate::body::{body_in, put_body_place};
 use report::{Told, tell};
 use worker::Reply;
 
-// The numbers of the answers TooLong and NoPlace, which no scan rests in.
+// The numbers of the answers TooLong and NoPlace. `base::state` has the numbers of a scan's states, and these are none: where they are given,
+// there is no scan.
 const TOO_LONG: u8 = 2;
 
 const NO_PLACE: u8 = 11;

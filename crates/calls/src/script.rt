@@ -8,7 +8,7 @@ use worker::{Called, Reply, Worker};
 
 // The worker; the bytes, the event buffer, the scratch and the output's buffer that the program has room for, how many of the bytes are
 // lent, how many words the worker's event buffer has and how far the output's is filled; the number of the line at hand, and how many
-// lines were no calls.
+// lines were no calls. Memory is fixed, so a buffer has its length beside it and is no Vec.
 #[derive(Drop)]
 pub(crate) struct Script<'a> {
     pub worker: Worker,

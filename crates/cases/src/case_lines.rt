@@ -31,7 +31,8 @@ pub(crate) fn case_line(rt: &impl Print, entry: Entry, desk: &mut Desk, run: &mu
     );
 }
 
-// The case with its answer, or both answers where they differ.
+// The case with its answer, or both answers where they differ. The desk's answer and words come as they are cut for this case, and so one by
+// one, here and below.
 fn answer_line(
     rt: &impl Print,
     entry: Entry,

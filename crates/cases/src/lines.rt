@@ -1,4 +1,5 @@
-// One line of the input after the other. `calls` has the same loop: a trait for what the two do with a line would be longer than it.
+// One line of the input after the other. `calls` has the same loop. It is not shared: the two do other things at each of its steps, so a
+// trait would have a function for each, and both programs would still write them all.
 use crate::behind::Entry;
 use crate::case_lines::case_line;
 use crate::desk::Desk;
@@ -13,7 +14,8 @@ use text::{Input, Line, Sort};
 // More than there are lines and reads in any input.
 const TURNS: u64 = 18_446_744_073_709_551_615;
 
-// Every line of the input, and the status: 0 where each was a case or a comment and nothing differs, 2 where a read failed.
+// Every line of the input, and the status: 0 where each was a case or a comment and nothing differs, 2 where a read failed. The buffer is
+// no part of the desk, since a line of it is read while the desk is written.
 pub(crate) fn run_input(
     rt: &(impl Files + Print),
     source: &mut impl Read,
@@ -56,7 +58,7 @@ fn run_lines(
 }
 
 // A line is used up, or more is read: the input to go on with, or None at its end. What is to be written is written before each read, so
-// that someone at a terminal sees it.
+// that someone at a terminal sees it. A struct of source, buffer and input would be taken apart at once: text's functions take them singly.
 fn one_turn(
     rt: &impl Print,
     source: &mut impl Read,

@@ -29,7 +29,7 @@ pub(crate) fn list_line(rt: &impl Print, entry: Entry, desk: &mut Desk, run: &mu
 }
 
 // The list with its answers, or both where they differ. It is run anew for each of comparing and writing, so that no more than a piece
-// of it is kept.
+// of it is kept. The desk's page and words come as they are cut for this list, and so one by one.
 fn answer_line(
     rt: &impl Print,
     entry: Entry,

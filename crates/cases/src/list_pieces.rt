@@ -16,7 +16,7 @@ pub(crate) struct List<'a> {
 }
 
 // How far a list has been run: where its next piece begins, how many events stand in the buffer, and whether a record was answered
-// Full, behind which none is filled.
+// Full, behind which none is filled. The last is a bool of its own, since a list that is full still goes on, and both numbers still count.
 #[derive(Clone, Copy)]
 pub(crate) struct Front {
     pub at: usize,
@@ -24,7 +24,8 @@ pub(crate) struct Front {
     pub full: bool,
 }
 
-// A piece with its answers, of whose records the first `count` are its own, and the front behind it.
+// A piece with its answers, of whose records the first `count` are its own, and the front behind it. The records are a call's, all MANY of
+// them, in fixed memory, so the count stands beside them.
 #[derive(Clone, Copy)]
 pub(crate) struct Piece {
     pub many: Many,

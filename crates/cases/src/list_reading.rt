@@ -13,7 +13,8 @@ pub(crate) struct Head {
     pub jobs: usize,
 }
 
-// The jobs of one piece as records with nothing answered yet, how many they are, and where the next piece begins.
+// The jobs of one piece as records with nothing answered yet, how many they are, and where the next piece begins. A call takes all MANY
+// records, in fixed memory, so the count stands beside them.
 #[derive(Clone, Copy)]
 pub(crate) struct Jobs {
     pub openings: [Opening; MANY],
@@ -26,8 +27,8 @@ const AFTER_NAME: usize = 6;
 
 const AFTER_LETTERS: usize = 4;
 
-// A start past the end of every page.
-const NOWHERE: usize = 18_446_744_073_709_551_615;
+// A start past the end of every page. It is a number since the record that has it is laid out for C (`batch::Opening`).
+const NOWHERE: usize = usize::MAX;
 
 pub(crate) fn is_list(line: &[u8]) -> bool {
     line.starts_with(b"batch ")

@@ -5,9 +5,11 @@ use page::line::Line;
 use report::Told;
 use scan::Tally;
 
-// The number of the answer BadText, which no scan rests in.
+// The number of the answer BadText. `base::state` has the numbers of a scan's states, and this answer is none: where it is given, there is
+// no scan.
 const BAD_TEXT: u8 = 4;
 
+// Neither type is of this crate, so it can't be a From.
 pub(crate) fn told_of(opening: Opening) -> Told {
     let values = values_of(opening.answer);
     // The value of Done is an end, and the first of every other answer a place.

@@ -1,6 +1,6 @@
 // What the program has come to between two lines, and what it says.
 
-// The output's buffer and how far it is filled, the number of the line at hand, and what was counted.
+// The output's buffer and how far it is filled, the number of the line at hand, and what was counted. Memory is fixed, so it is no Vec.
 #[derive(Drop)]
 pub(crate) struct Run<'a> {
     pub out: &'a mut [u8],

@@ -17,7 +17,8 @@ const NOTHING_MADE: Tally = Tally {
     steps: 0,
 };
 
-// The answer's number, its counts, and the length of its text, which stands at the start of a lent buffer.
+// The answer's number, its counts, and the length of its text, which stands at the start of a lent buffer. The number is that of report's
+// `Told`, and no more is asked of it than whether it is Nok's.
 #[derive(Clone, Copy)]
 pub(crate) struct Outcome {
     pub number: u8,

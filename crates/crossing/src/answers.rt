@@ -66,7 +66,7 @@ fn tallied(numbers: AnswerNumbers, tally: Tally) -> AnswerNumbers
     }
 }
 
-// What a single scan is answered.
+// What a single scan is answered. report's `tell` and batch's records have a match like it: each fills other fields, here in C's layout.
 impl From<Answer> for AnswerNumbers {
     ghost from_gives = { λ answer numbers. numbers ≡ answer_numbers (single.said_by answer) };
 
@@ -122,7 +122,7 @@ impl From<Reply> for AnswerNumbers {
     }
 }
 
-// Where a body of some kind is: a function, since the kind comes beside the body, and `From` takes one value.
+// Where a body of some kind is: a function, since a body and its kind are two values of different sorts, and a pair of them has no name.
 #[tactic(auto, using(crate::proofs::Bodies::page_numbers, crate::proofs::Bodies::scratch_numbers, crate::proofs::Bodies::refused_numbers))]
 pub fn body_numbers(body: Option<Body>, kind: u8) -> BodyNumbers
     ensures { result ≡ body_numbers (mdx_collect.said_by body) kind }

@@ -1,6 +1,7 @@
 // Scans, workers, verdicts and answers as numbers, so that they can cross to another language and back. An enum or a bool has bit patterns
-// that it may not have, and a caller in C can hand over any: so none of them crosses. A number stands for each, and of one that stands for
-// nothing nothing is made (`Unlisted`). `From` makes numbers, `TryFrom` what they stand for.
+// that it may not have, and a caller in C can hand over any: so none of them crosses. A number stands for each. `From` makes numbers;
+// `TryFrom` and `try_verdict` make what they stand for, and nothing of one that stands for nothing (`Unlisted`). `verdict_in`, `scan_in` and
+// `worker_in` take every number.
 //
 // All other fields are as wide as those that they stand for, so that nothing is cut off and nothing else needs a test: what no call can have
 // given is refused by the calls themselves. A scan's and a worker's numbers have no gap between them.

@@ -9,6 +9,7 @@ use crate::answers::bare;
 use crate::{AnswerNumbers, RanNumbers, ScanNumbers, Unlisted};
 use base::{InTab, Verdict};
 use page::line::Line;
+use scan::beginning::ALL_FLAGS;
 use scan::lines::Lines;
 use scan::{Ran, Scan};
 use tokenizer::{Job, Regs, Tokenizer};
@@ -20,12 +21,12 @@ pub const UNFINISHED: u8 = 1;
 
 pub const WRONG: u8 = 2;
 
-// The largest number of flags, and of columns passed of a tab.
-const ALL_FLAGS: u8 = 3;
-
+// The largest number of columns passed of a tab.
 const MOST_COLUMNS: u8 = 3;
 
 // ---- verdicts
+
+// The functions that take every number, verdict_in and scan_in, stand beside those that try: docs/PROMISES.md has them never fail.
 
 // Whether a number is the case of a verdict.
 pub fn verdict_listed(verdict: u8) -> bool
@@ -112,6 +113,7 @@ fn flags_out(asks: bool, interrupt: bool) -> u8
     u8::from(asks) + 2 * u8::from(interrupt)
 }
 
+// job_in, regs_in and lines_in are the parts of one conversion, and no From: the numbers have the fields of all three.
 fn job_in(numbers: ScanNumbers) -> Job
     ensures { result ≡ job_in numbers }
 {
@@ -268,7 +270,8 @@ impl From<Ran> for RanNumbers {
     }
 }
 
-// The numbers stand for no scan: they are handed back as they are, with 12.
+// The numbers stand for no scan: they are handed back as they are, with 12. `called_refused` is the same of a worker's, which C has in a
+// struct of its own.
 #[tactic(auto, using(crate::proofs::Bodies::nothing_carried))]
 pub fn ran_refused(scan: ScanNumbers) -> RanNumbers
     ensures { result ≡ ran_refused scan }

@@ -12,7 +12,6 @@ use crate::{
     WorkerNumbers,
 };
 use scan::beginning::no_scan;
-use worker::places::PLACES;
 use worker::{Called, Place, Reply, Worker};
 
 // ---- places
@@ -51,12 +50,14 @@ impl From<Place> for PlaceNumbers {
 
 // ---- workers
 
+// worker_listed and worker_in stand beside the impl that tries, which calls them: they are promised never to fail (docs/PROMISES.md).
+
 // Whether the numbers stand for a worker.
 pub fn worker_listed(numbers: WorkerNumbers) -> bool
     ensures { result ≡ worker_listed numbers }
 {
-    for k in 0..PLACES {
-        if !place_listed(numbers.places[k]) {
+    for place in &numbers.places {
+        if !place_listed(*place) {
             return false;
         }
     }
@@ -74,8 +75,8 @@ pub fn worker_in(numbers: WorkerNumbers) -> Worker
         scan: no_scan(),
     };
     let mut places = [none; 16];
-    for k in 0..PLACES {
-        places[k] = place_in(numbers.places[k]);
+    for (k, place) in numbers.places.iter().enumerate() {
+        places[k] = place_in(*place);
     }
     Worker {
         places,
@@ -113,8 +114,8 @@ impl From<Worker> for WorkerNumbers {
             taken: 0,
         };
         let mut places = [none; 16];
-        for k in 0..PLACES {
-            places[k] = PlaceNumbers::from(worker.places[k]);
+        for (k, place) in worker.places.iter().enumerate() {
+            places[k] = PlaceNumbers::from(*place);
         }
         WorkerNumbers {
             places,

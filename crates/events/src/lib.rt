@@ -65,7 +65,7 @@ fn word_at(words: &[u32], i: usize) -> u32
     words.get(i).copied().unwrap_or(0)
 }
 
-// Event k of a buffer. What stands past the end is read as 0.
+// Event k of a buffer. What stands past the end is read as 0, and no Option: docs/PROMISES.md has it give an event for every k.
 pub fn read(words: &[u32], k: usize) -> Event
     ensures { result ≡ event_in words.now k }
 {

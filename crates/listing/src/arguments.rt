@@ -39,7 +39,8 @@ fn kind_in(rt: &impl Env, space: &mut [u8]) -> Option<u8> {
     }
 }
 
-// An argument is put at the space's start: its length, and 0 where the space has no room for it. None where it is left out.
+// An argument is put at the space's start: its length, and 0 where the space has no room for it. None where it is left out. 0 needs no case
+// of its own: no bytes are no number and no letter, so both callers that read the word refuse it as they do any other wrong one.
 fn word_in(rt: &impl Env, number: usize, space: &mut [u8]) -> Option<usize> {
     match rt.arg(number, space) {
         Ok(length) => Some(length),

@@ -25,6 +25,14 @@ const WORD_ROOM: usize = room::AT_EACH_BYTE * PAGE_ROOM * events::WIDTH;
 
 const TEXT_ROOM: usize = 65_536;
 
+// Room for a page, the words of its events, and what is about to be written.
+#[derive(Drop)]
+struct Desk<'a> {
+    page: &'a mut [u8],
+    words: &'a mut [u32],
+    out: &'a mut [u8],
+}
+
 fn main(rt: HostRuntime) {
     let mut source = rt.stdin();
     let errors = rt.stderr();
@@ -43,19 +51,18 @@ fn run(
     words: &mut [u32; WORD_ROOM],
     out: &mut [u8; TEXT_ROOM],
 ) {
-    list(rt, source, errors, page, words, out);
+    let mut desk = Desk { page, words, out };
+    list(rt, source, errors, &mut desk);
 }
 
 fn list(
     rt: &(impl Env + Files + Print),
     source: &mut impl Read,
     errors: &impl Print,
-    space: &mut [u8],
-    words: &mut [u32],
-    out: &mut [u8],
+    desk: &mut Desk,
 ) {
     match read_arguments(rt) {
-        Some(asked) => list_input(rt, source, errors, asked, space, words, out),
+        Some(asked) => list_input(rt, source, errors, asked, desk),
         None => report::give_up(rt, errors, b"usage: listing [START [f|t]]\n"),
     }
 }
@@ -65,14 +72,12 @@ fn list_input(
     source: &mut impl Read,
     errors: &impl Print,
     asked: Asked,
-    space: &mut [u8],
-    words: &mut [u32],
-    out: &mut [u8],
+    desk: &mut Desk,
 ) {
-    match read_page(source, space) {
+    match read_page(source, desk.page) {
         Ok(read) => {
-            let count = read.min(space.len());
-            list_page(rt, asked, &space[0..count], words, out)
+            let count = read.min(desk.page.len());
+            list_page(rt, asked, &mut desk.page[0..count], desk.words, desk.out)
         }
         Err(_) => report::give_up(rt, errors, b"listing: standard input can't be read\n"),
     }

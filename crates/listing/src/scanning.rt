@@ -2,16 +2,13 @@
 // else as an ESM block whose verdicts are all fine.
 use crate::arguments::Asked;
 use base::Verdict;
-use scan::beginning::single;
+use scan::beginning::{ASKS, single};
 use scan::{Answer, Request};
 
 // More steps than a run over the longest page takes, and more runs than it asks for verdicts.
 const ALLOWANCE: usize = 480_016;
 
 const RUNS: usize = 60_001;
-
-// The flag that says that a verdict source is at hand.
-const ASKS: u8 = 1;
 
 // The scan runs until it has ended; whenever it asks, all is fine.
 pub(crate) fn answer_of(asked: Asked, page: &[u8], words: &mut [u32]) -> Answer {

@@ -61,47 +61,31 @@ fn seam_of(scan: Scan) -> usize
 fn only_prefix(page: &[u8], from: usize, to: usize) -> bool
     ensures { result ≡ only_prefix page.now from to }
 {
-    if to <= from {
-        return true;
-    }
-    if 2 < to - from {
-        return false;
-    }
-    if byte_at(page, from) != byte::SPACE {
-        return false;
-    }
-    if to - from == 1 {
-        return true;
-    }
-    byte_at(page, from + 1) == byte::SPACE
+    to <= from
+        || to - from <= 2
+            && byte_at(page, from) == byte::SPACE
+            && (to - from == 1 || byte_at(page, from + 1) == byte::SPACE)
 }
 
 // Whether a scan of the construct asks in this state: a verdict that is kept is not applied yet.
 fn is_asking(name: u8, construct: u8) -> bool
     ensures { result ≡ asks_in name construct }
 {
-    if name == state::ASKING {
-        return true;
-    }
-    name == scan::calling::verdict_state(construct)
+    name == state::ASKING || name == scan::calling::verdict_state(construct)
 }
 
 // Whether the scan asks, over a page of n bytes.
-#[tactic(auto, using(base::proofs::Choice::picks), unfolding(crate::specs::Collect::asked))]
+#[tactic(auto, unfolding(crate::specs::Collect::asked))]
 fn is_asked(scan: Scan, n: usize) -> bool
     ensures { result ≡ asked scan n }
 {
     let job = scan.tokenizer.job;
-    if !is_asking(scan.tokenizer.state, job.construct) {
-        return false;
-    }
-    if n != job.length {
-        return false;
-    }
-    scan.in_range()
+    is_asking(scan.tokenizer.state, job.construct) && n == job.length && scan.in_range()
 }
 
-// How many bytes the body between the two places has, its line prefixes left out.
+// How many bytes the body between the two places has, its line prefixes left out. `copy` and `body_places::expression_place` go over a body
+// in the same way, and are no one walk with it: what each does at a byte differs, and what it keeps from byte to byte. Places are counted,
+// and no slice is gone over, since `from` may lie past `to`.
 #[tactic(auto, using(crate::proofs::Laws::passed_over, crate::proofs::Laws::split_over, crate::proofs::Laws::counted, crate::proofs::Laws::all_counted))]
 fn count(page: &[u8], from: usize, to: usize) -> usize
     requires { (to ≤ length page.now) × (length page.now ≤ page_limit) }

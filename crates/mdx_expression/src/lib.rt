@@ -10,7 +10,7 @@ use base::{
     retry_with, state,
 };
 
-// The where-number of an expression that the page's end cuts off.
+// The where-number of an expression that the page's end cuts off, by its number, as the others (`mdx_jsx::site`).
 const IN_EXPRESSION: u8 = 19;
 
 // A line prefix has at most two columns.
@@ -63,7 +63,7 @@ pub fn start(b: u16, token: u8) -> Move
     }
 }
 
-// Before data, or at the closing brace.
+// Before data, or at the closing brace. The six are the byte and what the state reads of the registers.
 //
 //     > | a {Math.PI} c
 //            ^
@@ -186,7 +186,7 @@ pub fn prefix(b: u16, size: u8) -> Move
     }
 }
 
-// At a `}` on whose body a verdict was given. An error stands at `place`.
+// At a `}` on whose body a verdict was given. An error stands at `place`; that arm is one call, and so it is written in mdx_esm again.
 //
 //     > | a {Math.PI} c
 //                   ^

@@ -121,6 +121,16 @@ whitespace_here marks back = retry_with mdx_jsx_es_whitespace_start marks (Retur
 abbrev pub whitespace_after : Marks → ℕ → Move
 whitespace_after marks back = eat_with mdx_jsx_es_whitespace_start marks (Return back)
 
+-- a marker of the kind `token`, of one byte: it is entered and left, and white space may stand after it
+abbrev pub marker : ℕ → ℕ → Move
+marker token back = whitespace_after (Two (Enter token) (Leave token)) back
+
+-- before a later part of a name, whose events are of the kind `token`: an identifier begins, in the state `inside`
+abbrev pub part_begins : ℕ → ℕ → ℕ → ℕ → Move
+part_begins b token inside site =
+    when is_id_start b then eat inside (One (Enter token))
+    else crash site no_note
+
 -- the five states inside a name: one argument over the bytes that end it
 --     identifier ::= identifier_start *identifier_part
 abbrev pub in_a_name : ℕ → Bool → ℕ → Marks → ℕ → ℕ → ℕ → Move

@@ -39,7 +39,7 @@ pub fn name_followed(b: u16) -> bool
     tag_goes_on(b) || char_class::id_start(b)
 }
 
-// White space may stand at this byte; then comes `back`.
+// White space may stand at this byte; then comes `back`. Beside `whitespace_after`, with no flag for the byte: every use knows which it is.
 pub fn whitespace_here(marks: Marks, back: u8) -> Move
     ensures { result ≡ jsx.whitespace_here marks back }
 {
@@ -61,7 +61,25 @@ pub fn whitespace_after(marks: Marks, back: u8) -> Move
     )
 }
 
-// The five states inside a name: `ends` tells whether the byte ends this one.
+// The byte is a marker, entered and left, and white space may stand after it; then comes `back`.
+pub fn marker(token: u8, back: u8) -> Move
+    ensures { result ≡ jsx.marker token back }
+{
+    whitespace_after(Marks::Two(Mark::Enter(token), Mark::Leave(token)), back)
+}
+
+// A later part of a name, of the kind `token`, begins at this byte, or none does.
+pub fn part_begins(b: u16, token: u8, inside: u8, at: u8) -> Move
+    ensures { result ≡ jsx.part_begins b token inside at }
+{
+    if char_class::id_start(b) {
+        eat(inside, Marks::One(Mark::Enter(token)))
+    } else {
+        crash(at, site::NO_NOTE)
+    }
+}
+
+// The five states inside a name, each of which hands over what is its own: `ends` tells whether the byte ends this one.
 pub fn in_a_name(b: u16, ends: bool, same: u8, marks: Marks, after: u8, at: u8, note: u8) -> Move
     ensures { result ≡ jsx.in_a_name b ends same marks after at note }
 {

@@ -8,8 +8,8 @@ use base::{
     Effect, Mark, Marks, Move, byte, eat, eat_with, kind, refuse, retry, retry_with, state,
 };
 use mdx_jsx::{
-    crash, in_a_name, name_followed, site, tag_goes_on, whitespace_after, whitespace_here,
-    whitespace_or_end,
+    crash, in_a_name, marker, name_followed, part_begins, site, tag_goes_on, whitespace_after,
+    whitespace_here, whitespace_or_end,
 };
 
 // Before an attribute, the slash that ends the tag, or its end.
@@ -24,11 +24,10 @@ pub fn attribute_before(b: u16) -> Move
     ensures { result ≡ attribute.attribute_before b }
 {
     if b == byte::SLASH {
-        let marks = Marks::Two(
-            Mark::Enter(kind::JSX_TAG_SELF_CLOSING_MARKER),
-            Mark::Leave(kind::JSX_TAG_SELF_CLOSING_MARKER),
-        );
-        whitespace_after(marks, state::MDX_JSX_SELF_CLOSING)
+        marker(
+            kind::JSX_TAG_SELF_CLOSING_MARKER,
+            state::MDX_JSX_SELF_CLOSING,
+        )
     } else if b == byte::GREATER_THAN {
         retry(state::MDX_JSX_TAG_END, Marks::Nothing)
     } else if b == byte::LEFT_BRACE {
@@ -56,7 +55,7 @@ pub fn attribute_expression_after() -> Move
     whitespace_here(Marks::Nothing, state::MDX_JSX_ATTRIBUTE_BEFORE)
 }
 
-// What ends the first identifier of an attribute's name.
+// What ends the first identifier of an attribute's name. The names' parts end at different bytes, and each function says its own.
 fn attribute_primary_name_ends(b: u16) -> bool
     ensures { result ≡ attribute.attribute_primary_name_ends b }
 {
@@ -100,11 +99,10 @@ pub fn attribute_primary_name_after(b: u16) -> Move
     ensures { result ≡ attribute.attribute_primary_name_after b }
 {
     if b == byte::COLON {
-        let marks = Marks::Two(
-            Mark::Enter(kind::JSX_TAG_ATTRIBUTE_NAME_PREFIX_MARKER),
-            Mark::Leave(kind::JSX_TAG_ATTRIBUTE_NAME_PREFIX_MARKER),
-        );
-        whitespace_after(marks, state::MDX_JSX_ATTRIBUTE_LOCAL_NAME_BEFORE)
+        marker(
+            kind::JSX_TAG_ATTRIBUTE_NAME_PREFIX_MARKER,
+            state::MDX_JSX_ATTRIBUTE_LOCAL_NAME_BEFORE,
+        )
     } else if b == byte::EQUALS_SIGN {
         let marks = Marks::Three(
             Mark::Exit(kind::JSX_TAG_ATTRIBUTE_NAME),
@@ -131,12 +129,12 @@ pub fn attribute_primary_name_after(b: u16) -> Move
 pub fn attribute_local_name_before(b: u16) -> Move
     ensures { result ≡ attribute.attribute_local_name_before b }
 {
-    if char_class::id_start(b) {
-        let marks = Marks::One(Mark::Enter(kind::JSX_TAG_ATTRIBUTE_NAME_LOCAL));
-        eat(state::MDX_JSX_ATTRIBUTE_LOCAL_NAME, marks)
-    } else {
-        crash(site::BEFORE_LOCAL_ATTRIBUTE_NAME, site::NO_NOTE)
-    }
+    part_begins(
+        b,
+        kind::JSX_TAG_ATTRIBUTE_NAME_LOCAL,
+        state::MDX_JSX_ATTRIBUTE_LOCAL_NAME,
+        site::BEFORE_LOCAL_ATTRIBUTE_NAME,
+    )
 }
 
 // What ends the local part of an attribute's name: a `:` does not.
@@ -177,11 +175,10 @@ pub fn attribute_local_name_after(b: u16) -> Move
     ensures { result ≡ attribute.attribute_local_name_after b }
 {
     if b == byte::EQUALS_SIGN {
-        let marks = Marks::Two(
-            Mark::Enter(kind::JSX_TAG_ATTRIBUTE_INITIALIZER_MARKER),
-            Mark::Leave(kind::JSX_TAG_ATTRIBUTE_INITIALIZER_MARKER),
-        );
-        whitespace_after(marks, state::MDX_JSX_ATTRIBUTE_VALUE_BEFORE)
+        marker(
+            kind::JSX_TAG_ATTRIBUTE_INITIALIZER_MARKER,
+            state::MDX_JSX_ATTRIBUTE_VALUE_BEFORE,
+        )
     } else if name_followed(b) {
         let marks = Marks::One(Mark::Exit(kind::JSX_TAG_ATTRIBUTE));
         retry(state::MDX_JSX_ATTRIBUTE_BEFORE, marks)

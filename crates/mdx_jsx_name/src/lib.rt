@@ -6,7 +6,7 @@ ghost use Rattle.mdx_jsx_name.specs.Name as name;
 
 use base::{Mark, Marks, Move, byte, eat, kind, retry, state};
 use mdx_jsx::{
-    crash, in_a_name, name_followed, site, tag_goes_on, whitespace_after, whitespace_or_end,
+    crash, in_a_name, marker, name_followed, part_begins, site, tag_goes_on, whitespace_or_end,
 };
 
 // What is noted of `@` in a name: it may be meant for a link.
@@ -43,11 +43,10 @@ pub fn name_before(b: u16) -> Move
     ensures { result ≡ name.name_before b }
 {
     if b == byte::SLASH {
-        let marks = Marks::Two(
-            Mark::Enter(kind::JSX_TAG_CLOSING_MARKER),
-            Mark::Leave(kind::JSX_TAG_CLOSING_MARKER),
-        );
-        whitespace_after(marks, state::MDX_JSX_CLOSING_TAG_NAME_BEFORE)
+        marker(
+            kind::JSX_TAG_CLOSING_MARKER,
+            state::MDX_JSX_CLOSING_TAG_NAME_BEFORE,
+        )
     } else if b == byte::GREATER_THAN {
         retry(state::MDX_JSX_TAG_END, Marks::Nothing)
     } else if char_class::id_start(b) {
@@ -79,7 +78,7 @@ pub fn closing_tag_name_before(b: u16) -> Move
     }
 }
 
-// What ends a primary name.
+// What ends a primary name. The names of a tag and of an attribute end at different bytes, and each function says its own.
 fn primary_name_ends(b: u16) -> bool
     ensures { result ≡ name.primary_name_ends b }
 {
@@ -116,22 +115,10 @@ fn name_ends() -> Move
 fn member_starts() -> Move
     ensures { result ≡ name.member_starts }
 {
-    let marks = Marks::Two(
-        Mark::Enter(kind::JSX_TAG_NAME_MEMBER_MARKER),
-        Mark::Leave(kind::JSX_TAG_NAME_MEMBER_MARKER),
-    );
-    whitespace_after(marks, state::MDX_JSX_MEMBER_NAME_BEFORE)
-}
-
-// A `:`: a local name follows.
-fn local_starts() -> Move
-    ensures { result ≡ name.local_starts }
-{
-    let marks = Marks::Two(
-        Mark::Enter(kind::JSX_TAG_NAME_PREFIX_MARKER),
-        Mark::Leave(kind::JSX_TAG_NAME_PREFIX_MARKER),
-    );
-    whitespace_after(marks, state::MDX_JSX_LOCAL_NAME_BEFORE)
+    marker(
+        kind::JSX_TAG_NAME_MEMBER_MARKER,
+        state::MDX_JSX_MEMBER_NAME_BEFORE,
+    )
 }
 
 // After the first identifier of a name.
@@ -146,7 +133,10 @@ pub fn primary_name_after(b: u16) -> Move
     if b == byte::DOT {
         member_starts()
     } else if b == byte::COLON {
-        local_starts()
+        marker(
+            kind::JSX_TAG_NAME_PREFIX_MARKER,
+            state::MDX_JSX_LOCAL_NAME_BEFORE,
+        )
     } else if name_followed(b) {
         name_ends()
     } else {
@@ -161,12 +151,12 @@ pub fn primary_name_after(b: u16) -> Move
 pub fn member_name_before(b: u16) -> Move
     ensures { result ≡ name.member_name_before b }
 {
-    if char_class::id_start(b) {
-        let marks = Marks::One(Mark::Enter(kind::JSX_TAG_NAME_MEMBER));
-        eat(state::MDX_JSX_MEMBER_NAME, marks)
-    } else {
-        crash(site::BEFORE_MEMBER_NAME, site::NO_NOTE)
-    }
+    part_begins(
+        b,
+        kind::JSX_TAG_NAME_MEMBER,
+        state::MDX_JSX_MEMBER_NAME,
+        site::BEFORE_MEMBER_NAME,
+    )
 }
 
 // What ends a member name: a `:` does not.
@@ -220,7 +210,7 @@ fn link_like(b: u16) -> bool
     matches!(b, byte::PLUS_SIGN | byte::SLASH..=byte::DIGIT_9)
 }
 
-// Before a local name.
+// Before a local name. Not by `part_begins`: the note of a byte that begins none depends on the byte.
 //
 //     > | a <b:c> d
 //              ^

@@ -67,7 +67,8 @@ pub fn check(bytes: &[u8], at: usize, length: usize, start: usize) -> Result<Lin
 }
 
 // The check of a page for another start, where that for one is known: the text is not read again. Lines are counted on from `from` where
-// the start is not before it, and from the page's beginning where it is.
+// the start is not before it, and from the page's beginning where it is. The six are `check`'s four and what is known: a struct would be
+// put together by the one caller, to be taken apart here.
 pub fn recheck(
     bytes: &[u8],
     at: usize,

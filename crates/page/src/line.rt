@@ -101,6 +101,7 @@ pub(crate) fn anchor_past(anchor: Anchor, at: usize, b: u16) -> Anchor
 }
 
 // The line and the column of a place, counted on from those of an earlier one; one past the page's end is the furthest.
+// That place is in no slice of the page, so places are counted, and `byte_at` reads there what stands for the end.
 pub(crate) fn line_on(page: &[u8], line: Line, from: usize, place: usize) -> Line
     requires { (length page.now ≤ page_limit) × (from ≤ place) × (place ≤ length page.now + 1) × (line ≡ line_at page.now from) }
     ensures { result ≡ line_at page.now place }

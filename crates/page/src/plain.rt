@@ -30,6 +30,7 @@ fn plain_block(block: &[u8; BLOCK]) -> bool
 }
 
 // From a place on, past as many whole blocks of plain bytes as there are.
+// No `take_while(..).count()`: it gives blocks, of which the place is a product and a sum again, where the loop has the place itself.
 pub(crate) fn skip_plain(page: &[u8], from: usize) -> usize
     requires { (from ≤ length page.now) × (length page.now ≤ page_limit) }
     ensures { PlainTo page.now from result }

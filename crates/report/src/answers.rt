@@ -7,7 +7,7 @@ use scan::{Answer, Tally};
 
 // An answer's number, how many values it carries, the values in the table's order, and its events and steps. Where the first value is a
 // place, it has its line and column. A value that is not carried is 0. Asking, Paused and Kept, which the table does not number, are 31
-// to 33.
+// to 33. The number and the count stay numbers: a record of a list, which `cases` makes one of these of, has no more.
 #[derive(Clone, Copy)]
 pub struct Told {
     pub number: u8,
@@ -19,6 +19,7 @@ pub struct Told {
     pub tally: Option<Tally>,
 }
 
+// crossing and batch have a match like it: each fills other fields, there in the layout that C has.
 pub fn tell(answer: Answer) -> Told
     ensures { result ≡ told_of answer }
 {
@@ -30,14 +31,17 @@ pub fn tell(answer: Answer) -> Told
         Answer::BadText { spot } => placed(4, 1, spot, 0, 0),
         Answer::NotAscii { spot, tally } => counting(placed(5, 1, spot, 0, 0), tally),
         Answer::Eof { spot, site, tally } => {
-            counting(placed(6, 2, spot, site as usize, 0), tally)
+            counting(placed(6, 2, spot, usize::from(site), 0), tally)
         }
         Answer::Unexpected {
             spot,
             site,
             note,
             tally,
-        } => counting(placed(7, 3, spot, site as usize, note as usize), tally),
+        } => counting(
+            placed(7, 3, spot, usize::from(site), usize::from(note)),
+            tally,
+        ),
         Answer::VerdictError {
             spot,
             number,

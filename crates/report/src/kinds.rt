@@ -6,7 +6,7 @@ ghost use Rattle.report.specs.Put.{outcome, put_of};
 use crate::pieces::text;
 use base::kind;
 
-// A number that is no kind's is `unknown`.
+// A number that is no kind's is `unknown`: docs/PROMISES.md has it take every number, so it takes no enum.
 pub fn kind_name(out: &mut [u8], at: usize, kind: u32) -> usize
     ensures { outcome result out.new ≡ put_of out.old at (kind_name kind ∷ []) }
 {

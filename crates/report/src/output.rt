@@ -54,7 +54,7 @@ pub fn flush(rt: &impl Print, out: &[u8], used: usize) {
 }
 
 // How a program ended, for whoever started it with a place for it: 0, 1 or 2, as a line on descriptor 3. Its exit status is 0 in each
-// case; where that descriptor is not open, nothing happens.
+// case; where that descriptor is not open, nothing happens. It takes every number, as docs/PROMISES.md has it, so it takes no enum.
 pub fn say_status(rt: &impl Files, status: u8) {
     let line = match status {
         0 => b"0\n",

@@ -73,6 +73,7 @@ pub fn hex(out: &mut [u8], at: usize, bytes: &[u8]) -> usize
     place + bytes.len() * 2
 }
 
+// By index: a pair from `chunks_exact_mut` would be written at two indices as well.
 fn put_digits(out: &mut [u8], at: usize, bytes: &[u8])
     requires { at + length bytes.now * 2 ≤ length out.old }
     ensures { out.new ≡ sets out.old at (hex_of bytes.now) }

@@ -7,7 +7,7 @@ use crate::answers::Told;
 use crate::pieces::{joined, text, value};
 use page::line::Line;
 
-// The name of the answer with a number of docs/NUMBERS.md; a number that is none's is `unknown`.
+// The name of the answer with a number of docs/NUMBERS.md; a number that is none's is `unknown`. docs/PROMISES.md has it take every number.
 pub fn answer_name(out: &mut [u8], at: usize, number: u8) -> usize
     ensures { outcome result out.new ≡ put_of out.old at (answer_name number ∷ []) }
 {

@@ -21,7 +21,7 @@ pub const ASKS: u8 = 1;
 
 pub const INTERRUPT: u8 = 2;
 
-const ALL_FLAGS: u8 = 3;
+pub const ALL_FLAGS: u8 = 3;
 
 // The state that a scan begins in.
 #[tactic(auto, using(base::proofs::Choice::picks))]
@@ -44,7 +44,7 @@ pub fn numbers_listed(construct: u8, kind: u8, flags: u8) -> bool
     flags <= ALL_FLAGS && construct_listed(construct) && kind_listed(kind)
 }
 
-// A page that is refused is no scan's.
+// Where a page is refused, a scan's answer says why: too long, a start that does not fit, or the first place at fault.
 impl From<Fault> for Answer {
     ghost from_gives = { λ fault answer. said_by answer ≡ refused_for fault };
 
@@ -120,7 +120,8 @@ fn no_regs() -> Regs
     }
 }
 
-// Where no scan is: one that has ended on an empty page, with nothing there.
+// Where no scan is: one that has ended on an empty page, with nothing there. It is no `None`, since C is handed the numbers of a scan in
+// each case (`RanNumbers`, `PlaceNumbers`).
 pub fn no_scan() -> Scan
     ensures { result ≡ no_scan }
 {

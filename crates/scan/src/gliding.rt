@@ -1,5 +1,7 @@
 // The short way through a page: bytes that a state passes with no event and no change but of place. A loop finds how many there are,
 // and they are counted as the steps that they are.
+//
+// `plain_data`, `may_glide` and `nests` go test by test: with one `&&` or `||` of all in each, nested braces took a fifth more instructions.
 ghost use Rattle.std.specs.Prelude.{◌≡◌, true, ◌≤◌, ◌<◌, length};
 ghost use Rattle.base.specs.Page.{page_limit, byte_at};
 ghost use Rattle.scan.specs.Gliding.{plain_data, plain_line, plain_value, plain_space, inside_a_name, may_glide, Glides, GlidesTo, Glided, furthest_place, nests, depth_past};
@@ -67,6 +69,7 @@ pub(crate) fn may_glide(name: u8) -> bool
 
 // Whether the state passes the byte with no event and no change but of place: where most bytes of a page are. None of them is a line
 // feed or a tab, so that each is one column.
+// No `match`: the five states inside a name are tested as a range, which `inside_a_name` says for `may_glide` too.
 pub(crate) fn glides(name: u8, quote: u16, b: u16) -> bool
     ensures { Glides name quote b result }
 {
@@ -116,6 +119,7 @@ pub(crate) fn depth_past(depth: u32, asks: bool, b: u16) -> u32
 }
 
 // How far the state passes bytes so: from a place on, up to a limit.
+// No `position`: it gives how many bytes are passed, or none where all are, to be made a place again.
 fn glide_end(page: &[u8], name: u8, quote: u16, from: usize, limit: usize) -> usize
     requires { (from ≤ limit) × (limit ≤ length page.now) }
     ensures { GlidesTo page.now name quote from limit result }

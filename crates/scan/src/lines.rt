@@ -29,7 +29,7 @@ pub const HIGHEST: usize = 1_048_578;
 // And no column: a byte has four at the most.
 pub const HIGHEST_COLUMN: usize = 4_194_313;
 
-// One more, up to that.
+// One more, up to that. Not generic with `one_deeper` and `one_longer`, for the reason that stands beside them in `tokenizer::moving`.
 #[tactic(auto, using(base::proofs::Choice::picks))]
 fn counted(n: usize) -> usize
     ensures { result ≡ one_more n highest }
@@ -96,7 +96,8 @@ fn column(line: Line, tab: InTab) -> usize
     line.column
 }
 
-// A place, as an answer carries it.
+// A place, as an answer carries it. Line, tab and place are no struct: a scan has the first two in `Lines` and the third in its tokenizer,
+// so each caller would put one together, to be taken apart here and in `point_in`.
 pub(crate) fn spot_in(line: Line, tab: InTab, at: usize) -> Spot
     ensures { result ≡ spot_in line tab at }
 {
@@ -138,8 +139,7 @@ fn within_end(page: &[u8], place: usize) -> usize
     requires { length page.now ≤ page_limit }
     ensures { (result ≡ within_end page.now place) × (result ≤ length page.now + 1) }
 {
-    let end = page.len() + 1;
-    if place < end { place } else { end }
+    place.min(page.len() + 1)
 }
 
 // Whether a call can have given the line of a place.

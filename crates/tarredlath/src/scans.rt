@@ -1,4 +1,4 @@
-// Single scans.
+// Single scans. C hands a request over field by field, so each function that takes one makes it: a function would take the same six.
 ghost use Rattle.std.specs.Prelude.{◌≡◌};
 ghost use Rattle.tarredlath.specs.Face.{ran, read, enough_face, once_face, new_face, run_face, give_face, answer_face, body_face};
 

@@ -1,4 +1,4 @@
-// Workers.
+// Workers. C hands a request over field by field, so `tarredlath_worker_admit` makes it, as two functions of `scans` do.
 ghost use Rattle.std.specs.Prelude.{◌≡◌};
 ghost use Rattle.tarredlath.specs.Face.{read, called, start_face, admit_face, turn_face, verdict_face, collect_face, place_body_face, view_face};
 

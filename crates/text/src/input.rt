@@ -58,8 +58,8 @@ pub fn least(a: usize, b: usize) -> usize
     a.min(b)
 }
 
-// How many turns are left after one more. A proved loop ends, and nothing says that an input does: so a program that reads on counts
-// its turns down, from more than any input takes.
+// How many turns are left after one more. A proved loop ends, and nothing says that an input does: so a program that reads on may count
+// its turns down, from more than any input takes. It stays since docs/PROMISES.md names it; nothing here calls it now.
 #[tactic(auto, using(crate::proofs::Choices::choices), unfolding(crate::specs::Input::turns_left))]
 pub fn turns_left(left: u64, going: bool) -> u64
     ensures value { result ≡ turns_left left going }

@@ -3,7 +3,7 @@ ghost use Rattle.std.specs.Prelude.{◌≡◌, ◌==◌, ◌≤◌, ◌<◌, len
 ghost use Rattle.text.specs.Find.{find_from};
 
 // The first place from `from` on at which the byte stands, or the line's length where there is none. The second clause
-// says what a caller that cuts the line there needs.
+// says what a caller that cuts the line there needs. It is no Option: callers cut there also where the byte does not stand.
 #[tactic(auto, unfolding(crate::specs::Find::find_from))]
 pub fn find(line: &[u8], from: usize, byte: u8) -> usize
     ensures value { result ≡ find_from line.now from byte }

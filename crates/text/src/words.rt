@@ -8,8 +8,5 @@ ghost use Rattle.text.specs.Word.{same};
 pub fn is_word(line: &[u8], from: usize, to: usize, word: &[u8]) -> bool
     ensures { result ≡ (lies line.now from to && same (part line.now from to) word.now) }
 {
-    let Some(bytes) = line.get(from..to) else {
-        return false;
-    };
-    bytes == word
+    line.get(from..to).is_some_and(|bytes| bytes == word)
 }

@@ -8,7 +8,8 @@ use crate::{TEXT, Tokenizer};
 use base::{Marks, Move, Verdict, after_line_feed, byte, in_column_one, kind, retry, state};
 
 // The start of a tag, and its end, with the kind of the tag's own events. Each way names its kind, so that all marks of a tag's decisions
-// are constants: a kind that is worked out and put into marks cost every step of a tag.
+// are constants: a kind that is worked out and put into marks cost every step of a tag. One function for both, with a closure for the state,
+// is no plainer: its contract would speak of all closures.
 fn tag_start(b: u16, text: u8) -> Move
     ensures { result ≡ jsx.start b (decision.tag_token text) }
 {
@@ -72,6 +73,7 @@ fn refuses_not_ascii(name: u8, b: u16) -> bool
 }
 
 // Where a verdict that says error stands in the body of an expression; any other stands where it was asked for.
+// That the place is below 2^63 is asked from here up to `call`, for the sum of a place and a drift: a page's places are, and no type has it.
 #[tactic(auto, using(base::proofs::Choice::picks), unfolding(crate::specs::Decision::expression_fault))]
 fn expression_fault(page: &[u8], heard: Verdict, from: usize, at: usize) -> usize
     requires { at < 2 ^ 63 }

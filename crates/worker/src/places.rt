@@ -28,43 +28,27 @@ pub(crate) fn free_place() -> Place
 }
 
 // A page that neither asks nor has ended.
-#[tactic(auto, using(base::proofs::Choice::picks))]
 pub(crate) fn is_running(p: Place) -> bool
     ensures { result ≡ running p }
 {
-    if p.taken {
-        return state::FIRST_RUNNING <= p.scan.tokenizer.state;
-    }
-    false
+    p.taken && state::FIRST_RUNNING <= p.scan.tokenizer.state
 }
 
 // The scan is one that a call can have given, over a share of so many words.
-#[tactic(auto, using(base::proofs::Choice::picks), unfolding(crate::specs::Place::place_in_range))]
+#[tactic(auto, unfolding(crate::specs::Place::place_in_range))]
 pub(crate) fn place_in_range(share: usize, p: Place) -> bool
     ensures { result ≡ place_in_range share p }
 {
-    if p.scan.tokenizer.job.words != share {
-        return false;
-    }
-    p.scan.in_range()
+    p.scan.tokenizer.job.words == share && p.scan.in_range()
 }
 
 // The ranges of a worker's own numbers: the place last served, and the steps of a turn. A turn asks it of the two, so as not to copy the
 // worker.
-#[tactic(auto, using(base::proofs::Choice::picks), unfolding(crate::specs::Inner::own_in_range))]
+#[tactic(auto, unfolding(crate::specs::Inner::own_in_range))]
 pub(crate) fn own_in_range(last: usize, q: usize) -> bool
     ensures { result ≡ own_in_range last q }
 {
-    if PLACES <= last {
-        return false;
-    }
-    if q < 1 {
-        return false;
-    }
-    if LONGEST_TURN < q {
-        return false;
-    }
-    true
+    last < PLACES && 1 <= q && q <= LONGEST_TURN
 }
 
 impl Worker {
@@ -82,17 +66,11 @@ impl Worker {
     pub(crate) fn holds(self, i: usize) -> bool
         ensures { result ≡ holds i self }
     {
-        if PLACES <= i {
-            return false;
-        }
-        if !self.in_range() {
+        if PLACES <= i || !self.in_range() {
             return false;
         }
         let p = self.places[i];
-        if p.taken {
-            return place_in_range(share_of(self.words), p);
-        }
-        false
+        p.taken && place_in_range(share_of(self.words), p)
     }
 
     // The lowest free place, if there is one.

@@ -30,11 +30,11 @@ impl Worker {
     fn holds_page(self, i: usize, lent: usize) -> bool
         ensures { result ≡ holds_page i lent self }
     {
-        if self.holds(i) {
-            let p = self.places[i];
-            return page::lies_inside(lent, p.at, p.scan.tokenizer.job.length);
+        if !self.holds(i) {
+            return false;
         }
-        false
+        let p = self.places[i];
+        page::lies_inside(lent, p.at, p.scan.tokenizer.job.length)
     }
 
     // Where the body is that place i asks about: a part of its page, or the front of the scratch it was copied to.
@@ -66,7 +66,8 @@ impl Worker {
         piece(bytes, 0, 0)
     }
 
-    // Where the share of place i begins in the event buffer; 0, where there is no such place.
+    // Where the share of place i begins in the event buffer; 0, and no None, where there is no such place: `start_at` is cited by `view_of`,
+    // whose number `View` hands to C.
     #[tactic(auto, using(crate::proofs::Laws::part_fits, crate::proofs::Laws::start_far, crate::proofs::Laws::start_near))]
     pub fn share_start(self, i: usize) -> usize
         ensures { result ≡ start_at i self }

@@ -13,25 +13,17 @@ use events::share::share_of;
 use scan::Answer;
 
 // The page still lies inside the lent bytes, and a run takes its scan over a share of so many words.
-#[tactic(auto, using(base::proofs::Choice::picks))]
 fn is_ready(p: Place, lent: usize, share: usize) -> bool
     ensures { result ≡ ready p lent share }
 {
-    if page::lies_inside(lent, p.at, p.scan.tokenizer.job.length) {
-        return place_in_range(share, p);
-    }
-    false
+    page::lies_inside(lent, p.at, p.scan.tokenizer.job.length) && place_in_range(share, p)
 }
 
 // The event buffer is as long as the worker's, and the worker's own numbers are in range.
-#[tactic(auto, using(base::proofs::Choice::picks))]
 fn can_turn(lent: usize, last: usize, q: usize, words: usize) -> bool
     ensures { result ≡ (eqb lent words && own_in_range last q) }
 {
-    if lent == words {
-        return own_in_range(last, q);
-    }
-    false
+    lent == words && own_in_range(last, q)
 }
 
 // The next running place after the one last served, round the ring, if there is one.

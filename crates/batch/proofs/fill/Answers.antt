@@ -1,13 +1,8 @@
 use Rattle.std.proofs.Common.{◌∙◌, sym, ap, set}
 use Rattle.batch.specs.declared.Filled.{Filled}
 use Rattle.batch.specs.Batch.{batch}
-use Rattle.batch.proofs.Lists.{all_refused, start_filling, filled_all, filled_more, filled_last}
+use Rattle.batch.proofs.Lists.{start_filling, filled_all, filled_more, filled_last}
 use Rattle.batch.proofs.fill.Goals as goal
-
-pub returns-then-not-all_counting : goal.returns-then-not-all_counting
-returns-then-not-all_counting c =
-    ap (λ (x : Filled). batch x c.args.openings.now c.args.events.now) c.outcome.ensures
-    ∙ all_refused c.args.openings.now c.args.events.now c.args.page.now (sym c.if-not-all_counting.ensures)
 
 pub loop-i-init : goal.loop-i-init
 loop-i-init c = start_filling _ _ _ c.begin-run.result (sym c.if-not-all_counting.ensures) c.begin-run.ensures.used (c.begin-run.ensures.sound _)
@@ -15,16 +10,16 @@ loop-i-init c = start_filling _ _ _ c.begin-run.result (sym c.if-not-all_countin
 pub answer_one-run-requires : goal.answer_one-run-requires
 answer_one-run-requires c = c.loop-i.invariant.sound
 
-pub returns-then-opening-eq-FULL : goal.returns-then-opening-eq-FULL
-returns-then-opening-eq-FULL c =
+pub returns-then-ends_list : goal.returns-then-ends_list
+returns-then-ends_list c =
     let e = c.answer_one-run.ensures in
-    ap (λ (x : Filled). batch x (set c.loop-i.openings c.loop-i.i c.answer_one-run.new.opening) c.answer_one-run.new.words) c.outcome-then-opening-eq-FULL.ensures
-    ∙ filled_last _ _ _ _ _ _ _ c.loop-i.invariant c.loop-i-test.true _ _ _ c.answer_one-run.result e.record e.words e.used c.if-opening-eq-FULL.true
+    ap (λ (x : Filled). batch x (set c.loop-i.openings c.loop-i.i c.answer_one-run.new.opening) c.answer_one-run.new.words) c.outcome-then-ends_list.ensures
+    ∙ filled_last _ _ _ _ _ _ _ c.loop-i.invariant c.loop-i-test.true _ _ _ c.answer_one-run.result e.record e.words e.used c.if-ends_list.ensures
 
 pub loop-i-preserved : goal.loop-i-preserved
 loop-i-preserved c =
     let e = c.answer_one-run.ensures in
-    filled_more _ _ _ _ _ _ _ c.loop-i.invariant c.loop-i-test.true _ _ _ _ e.record e.words e.used e.sound c.if-opening-eq-FULL.false
+    filled_more _ _ _ _ _ _ _ c.loop-i.invariant c.loop-i-test.true _ _ _ _ e.record e.words e.used e.sound c.if-ends_list.ensures
 
 pub returns : goal.returns
 returns c =

@@ -5,21 +5,21 @@ use Rattle.crossing.specs.Workers.{place_listed, numbers_at, each, worker_listed
 use Rattle.crossing.proofs.Tables.{each_fails, each_goes_on, each_none}
 use Rattle.crossing.proofs.workers.worker_listed.Goals as goal
 
-pub loop-k-init : goal.loop-k-init
+pub loop-place-init : goal.loop-place-init
 unfolding worker_listed
-loop-k-init c = refl
+loop-place-init c = refl
 
 pub returns-then-not-place_listed : goal.returns-then-not-place_listed
 returns-then-not-place_listed c =
     let test : ℕ → _ = λ i. place_listed (numbers_at c.args.numbers.places i) in
-    sym (c.loop-k.invariant ∙ each_fails test c.loop-k.k (16 - c.loop-k.k) (omega arith) (sym c.place_listed.ensures ∙ c.if-not-place_listed.true))
+    sym (c.loop-place.invariant ∙ each_fails test c.loop-place.place-index (16 - c.loop-place.place-index) (omega arith) (sym c.place_listed.ensures ∙ c.if-not-place_listed.true))
 
-pub loop-k-preserved : goal.loop-k-preserved
-loop-k-preserved c =
+pub loop-place-preserved : goal.loop-place-preserved
+loop-place-preserved c =
     let test : ℕ → _ = λ i. place_listed (numbers_at c.args.numbers.places i) in
-    c.loop-k.invariant ∙ each_goes_on test c.loop-k.k (16 - c.loop-k.k) (omega arith) (sym c.place_listed.ensures ∙ c.if-not-place_listed.false) ∙ ap (λ (n : ℕ). each test (c.loop-k.k + 1) n) (omega arith)
+    c.loop-place.invariant ∙ each_goes_on test c.loop-place.place-index (16 - c.loop-place.place-index) (omega arith) (sym c.place_listed.ensures ∙ c.if-not-place_listed.false) ∙ ap (λ (n : ℕ). each test (c.loop-place.place-index + 1) n) (omega arith)
 
 pub returns : goal.returns
 returns c =
     let test : ℕ → _ = λ i. place_listed (numbers_at c.args.numbers.places i) in
-    sym (c.loop-k.invariant ∙ each_none test c.loop-k.k (16 - c.loop-k.k) (omega arith))
+    sym (c.loop-place.invariant ∙ each_none test c.loop-place.place-index (16 - c.loop-place.place-index) (omega arith))
