@@ -1,5 +1,6 @@
 // What is done with the records of a list, one after the other: each is looked at first, and then each is answered.
-ghost use Rattle.std.specs.Prelude.{◌≡◌, ◌+◌, ℕ, List, eqb};
+ghost use Rattle.std.specs.Prelude.{◌≡◌, ◌+◌, ℕ, List, eqb, ltb, length};
+ghost use Rattle.base.specs.If.{when◌then◌else◌};
 ghost use Rattle.base.specs.State.{full};
 ghost use Rattle.batch.specs.Batch.{counting, all_counting, record_of, words_of};
 ghost use Rattle.batch.specs.Inner.{Sound};
@@ -40,6 +41,7 @@ pub(crate) fn all_counting(openings: &[Opening]) -> bool
 // The page is checked, once for all records.
 pub(crate) fn begin(page: &[u8]) -> Run
     ensures used { result.used ≡ 0 }
+    ensures counted_from { result.from ≡ 0 }
     ensures sound { (words : List ℕ) → Sound page.now words result }
 {
     Run {
@@ -57,12 +59,14 @@ pub(crate) fn ends_list(opening: &Opening) -> bool
 }
 
 // One record: a single scan with steps enough, over the event room that the earlier ones left. The check of the page for its start is
-// what is known of the page behind it, if that start is in the page.
+// what is known of the page behind it, if that start is in the page: so the lines of a start are counted on from the last one there.
+#[tactic(auto, using(base::proofs::Choice::picks))]
 pub(crate) fn answer_one(page: &[u8], opening: &mut Opening, words: &mut [u32], run: Run) -> Run
     requires { Sound page.now words.old run }
     ensures record { opening.new ≡ record_of page.now opening.old run.used words.old }
     ensures words { words.new ≡ words_of page.now opening.old run.used words.old }
     ensures used { result.used ≡ run.used + opening.new.events }
+    ensures counted_from { result.from ≡ (when ltb (length page.now) opening.old.start then run.from else opening.old.start) }
     ensures sound { Sound page.now words.new result }
 {
     let start = opening.start;

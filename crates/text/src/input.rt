@@ -48,6 +48,19 @@ impl Input {
     {
         at_front(false)
     }
+
+    // The input to go on with where `fill` has failed over a buffer of so many bytes: the unused ones are the last.
+    pub fn ended_behind(self, room: usize) -> Self
+        ensures { result ≡ ended_input room self }
+    {
+        let end = self.end.min(room);
+        Input {
+            at: 0,
+            end: end - self.at.min(end),
+            ended: true,
+            ..self
+        }
+    }
 }
 
 // The library's `min`, under the name that docs/PROMISES.md has.
@@ -167,7 +180,8 @@ fn at_front(skips: bool) -> Input
 const READ_ROOM: usize = 16_384;
 
 // The unused bytes are moved to the front, and what one read gives is put behind them: the input to go on with. A read that gives
-// nothing is the input's end. So is one that fails, and nothing is put behind the unused bytes then.
+// nothing is the input's end. So is one that fails, and nothing is put behind the unused bytes then: who goes on with them has the input
+// from `ended_behind`.
 pub fn fill(source: &mut impl Read, buffer: &mut [u8], input: Input) -> io::Result<Input>
     ensures { MatchResult result (λ next. Filled buffer.old input next buffer.new) (λ e. Filled buffer.old input (ended_input (length buffer.old) input) buffer.new) }
 {

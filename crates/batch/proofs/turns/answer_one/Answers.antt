@@ -17,5 +17,4 @@ returns-then-page-start-clause-sound c =
 pub returns-clause-sound : goal.returns-clause-sound
 returns-clause-sound c =
     let a = c.args in
-    sound_after a.page.now a.words.now a.opening.now a.run c.requires c.whole-ran.result _ _ c.whole-ran.ensures c.filled-record.ensures _ _ c.recheck-checked.ensures
-    c.if-page-start.false
+    sound_after a.page.now a.words.now a.opening.now a.run c.requires c.whole-ran.result _ _ c.whole-ran.ensures c.filled-record.ensures _ _ (search rules) (search rules)
