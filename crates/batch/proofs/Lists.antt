@@ -4,12 +4,13 @@ use native.Mathlib.Omega.{arith}
 use mathlib.Core.Path.{◌≡◌, refl, sym, ap, ap₂, ◌∙◌}
 use mathlib.Core.Bool.{true, false, ◌&&◌}
 use mathlib.Core.List.{List, [], ◌∷◌, ◌++◌}
-use lib.Dec.{eqb}
+use lib.Dec.{eqb, ltb}
 use lib.ListN.{length, get_or, set, take, drop, length-set, drop_of_length-le}
 use lib.Seq.{take_all}
 use Rattle.std.proofs.Common.{append_assoc, append-nil}
-use Rattle.std.proofs.lemmas.List.{take-append-drop, take-set, take_more_set, drop-set, drop-set-lt, drop_more}
-use Rattle.std.specs.List.{list_all}
+use Rattle.std.proofs.lemmas.List.{take-append-drop, take-set, take_more, take_more_set, drop-set, drop-set-lt, drop_more}
+use Rattle.std.proofs.lemmas.List.Sums.{fold-append}
+use Rattle.std.specs.List.{list_all, fold}
 use Rattle.base.specs.If.{when◌then◌else◌}
 use Rattle.base.specs.State.{done, full}
 use Rattle.base.specs.Number.{bad_call}
@@ -35,20 +36,29 @@ all_refused os words page e = if_no _ _ _ _ _ e refl
 abbrev in_front : List Opening → Batch → Batch
 in_front front b = batch b.filled (front ++ b.openings) b.words
 
+-- the start from which lines are counted on behind one record more, and behind some from the first on: the last that is in the page
+abbrev counted_on : List ℕ → ℕ → Opening → ℕ
+counted_on page from o = when ltb (length page) o.start then from else o.start
+
+abbrev last_counted : List ℕ → List Opening → ℕ
+last_counted page os = fold (counted_on page) 0 os
+
 -- n records are filled, and so many events written
 pub record Filling (page : List ℕ) (os : List Opening) (words : List ℕ) (n : ℕ) (now : List Opening) (after : List ℕ) (r : Run) : Type 0 where
   pub sound : Sound page after r
   pub long : length now ≡ length os
   pub left : drop n now ≡ drop n os
+  pub counted : r.from ≡ last_counted page (take n os)
   pub goal : in_front (take n now) (fill_from page n r.used (drop n os) after) ≡ batch_of page os words
 
 module _ (page : List ℕ) (os : List Opening) (words : List ℕ) where
-  pub start_filling : (r : Run) → all_counting os ≡ true → r.used ≡ 0 → Sound page words r → Filling page os words 0 os words r
+  pub start_filling : (r : Run) → all_counting os ≡ true → r.used ≡ 0 → r.from ≡ 0 → Sound page words r → Filling page os words 0 os words r
   unfolding batch_of
-  start_filling r e u h = record {
+  start_filling r e u v h = record {
     sound = h;
     long = refl;
     left = refl;
+    counted = v;
     goal = rw u (if_yes _ _ _ _ _ e refl);
   }
 
@@ -85,6 +95,13 @@ module _ (page : List ℕ) (os : List Opening) (words : List ℕ) where
     rest : drop n os ≡ asked ∷ drop (n + 1) os
     rest = sym h.left ∙ drop_more now n d here ∙ ap (λ (x : List Opening). asked ∷ x) behind_is
 
+    counted_more : counted_on page r.from asked ≡ last_counted page (take (n + 1) os)
+    counted_more =
+        let p = parts in
+        let asked_is : asked ≡ get_or os n d = cc in
+        ap₂ (counted_on page) h.counted asked_is ∙ sym (fold-append (counted_on page) 0 (take n os) (get_or os n d ∷ []))
+        ∙ ap (last_counted page) (sym (take_more os n d less))
+
     set_is : (f : Opening) → set now n f ≡ take n now ++ (f ∷ drop (n + 1) os)
     set_is f =
         sym (take-append-drop n (set now n f)) ∙ ap₂ (λ (x y : List Opening). x ++ y) (take-set now n f) (drop-set now n f here ∙ ap (λ (x : List Opening). f ∷ x) behind_is)
@@ -100,11 +117,13 @@ module _ (page : List ℕ) (os : List Opening) (words : List ℕ) where
 
     -- as the code has it
     module _ (f : Opening) (zs : List ℕ) (next : Run) (f_is : f ≡ record_now) (zs_is : zs ≡ words_now) (u : next.used ≡ r.used + f.events) where
-      pub filled_more : Sound page zs next → false ≡ eqb f.answer full → Filling page os words (n + 1) (set now n f) zs next
-      filled_more sound e = record {
+      pub filled_more : next.from ≡ counted_on page r.from asked → Sound page zs next → false ≡ eqb f.answer full
+          → Filling page os words (n + 1) (set now n f) zs next
+      filled_more v sound e = record {
         sound = sound;
         long = length-set now n f ∙ h.long;
         left = drop-set-lt (n + 1) now n f (omega arith) ∙ behind_is;
+        counted = v ∙ counted_more;
         goal = rw (u, f_is, zs_is) (on (sym (e ∙ ap (λ (x : Opening). eqb x.answer full) f_is)));
       }
 

@@ -92,7 +92,7 @@ impl TryFrom<WorkerNumbers> for Worker {
 
     ghost try_from_gives = { λ numbers result. result ≡ if_listed (worker_listed numbers) (worker_in numbers) };
 
-    // A worker is some 3,000 bytes: called, this clears and copies them once more for its `Result`, a fifth of what a turn takes.
+    // A worker is some 3,000 bytes: were this not inlined, a call would clear and copy them once more, a fifth of what a turn takes.
     #[inline(always)]
     #[tactic(auto, using(base::proofs::Choice::picks))]
     fn try_from(numbers: WorkerNumbers) -> Result<Worker, Unlisted> {

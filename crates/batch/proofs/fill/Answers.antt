@@ -5,7 +5,8 @@ use Rattle.batch.proofs.Lists.{start_filling, filled_all, filled_more, filled_la
 use Rattle.batch.proofs.fill.Goals as goal
 
 pub loop-i-init : goal.loop-i-init
-loop-i-init c = start_filling _ _ _ c.begin-run.result (sym c.if-not-all_counting.ensures) c.begin-run.ensures.used (c.begin-run.ensures.sound _)
+loop-i-init c = start_filling _ _ _ c.begin-run.result (sym c.if-not-all_counting.ensures) c.begin-run.ensures.used c.begin-run.ensures.counted_from
+    (c.begin-run.ensures.sound _)
 
 pub answer_one-run-requires : goal.answer_one-run-requires
 answer_one-run-requires c = c.loop-i.invariant.sound
@@ -19,7 +20,7 @@ returns-then-ends_list c =
 pub loop-i-preserved : goal.loop-i-preserved
 loop-i-preserved c =
     let e = c.answer_one-run.ensures in
-    filled_more _ _ _ _ _ _ _ c.loop-i.invariant c.loop-i-test.true _ _ _ _ e.record e.words e.used e.sound c.if-ends_list.ensures
+    filled_more _ _ _ _ _ _ _ c.loop-i.invariant c.loop-i-test.true _ _ _ _ e.record e.words e.used e.counted_from e.sound c.if-ends_list.ensures
 
 pub returns : goal.returns
 returns c =
